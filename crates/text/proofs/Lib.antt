@@ -1,0 +1,2 @@
+mod Pieced
+mod Numbered
