@@ -1,0 +1,9 @@
+pub mod Meaning
+pub mod Agreed
+pub mod Pairs
+pub mod Blocks
+pub mod First
+pub mod House
+pub mod Rounding
+pub mod General
+pub mod Worked
