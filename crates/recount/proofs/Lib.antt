@@ -1,0 +1,2 @@
+mod Peeled
+mod Room
