@@ -1,7 +1,199 @@
-// The limits of the subject, each once.
+// What every layer speaks of: the limits of the subject, the refusals and the plain records.
+
+ghost use mathlib.Core.Path.{_≡_};
+ghost use Rattle.domain.specs.Refusals.{refused, numberOfTable, numberOfTerm};
 
 // Settlement Periods in a day, numbered from 1.
 pub const PERIODS: u8 = 48;
 
 // The most that a meter counts in one Settlement Period, and the most that a place may nominate, in kWh.
 pub const MAX_KWH: u32 = 9_999_999;
+
+// The most that the Relevant Capacity may be for one Settlement Period, in kWh.
+pub const MAX_CAPACITY: u32 = 9_999_999;
+
+// The fewest and the most places of a book. Places are numbered from 0.
+pub const MIN_PLACES: u8 = 2;
+
+pub const MAX_PLACES: u8 = 8;
+
+// The most days of a book. Days are numbered from 0.
+pub const MAX_DAYS: u16 = 62;
+
+// Nominations that a row of a schedule carries, whatever the number of places.
+pub const NOMINATIONS: usize = 8;
+
+// The most records of a readings file and of a statement.
+pub const MAX_RECORDS: usize = 4_096;
+
+// One row of a schedule: how the energy of one Settlement Period is split.
+#[derive(Clone, Copy, PartialEq, Eq, Debug)]
+pub struct AllocationRow {
+    pub method: u8,
+    pub balance: u8,
+    pub nominations: [u32; NOMINATIONS],
+}
+
+// The metered energy of one Settlement Period, with its quality: 1 estimated, 2 actual, 0 in an empty slot.
+#[derive(Clone, Copy, PartialEq, Eq, Debug)]
+pub struct Reading {
+    pub quality: u8,
+    pub kwh: u32,
+}
+
+// What was last issued for one place in one Settlement Period; supplier 0 in an empty slot.
+#[derive(Clone, Copy, PartialEq, Eq, Debug)]
+pub struct Slot {
+    pub supplier: u16,
+    pub volume: i32,
+}
+
+// One line of the journal: a volume that was sent to a supplier.
+#[derive(Clone, Copy, PartialEq, Eq, Debug)]
+pub struct Line {
+    pub day: u16,
+    pub period: u8,
+    pub place: u8,
+    pub supplier: u16,
+    pub run: u8,
+    pub volume: i32,
+}
+
+// The terms of a book, by their numbers.
+#[derive(Clone, Copy, PartialEq, Eq, Debug)]
+pub enum Term {
+    Places = 1,
+    Days = 2,
+    Capacity = 3,
+}
+
+impl Term {
+    pub fn number(self) -> u8
+        ensures { λ r. ⌜ r ≡ numberOfTerm self ⌝ }
+    {
+        self as u8
+    }
+}
+
+// The tables that calls are lent, by their numbers.
+#[derive(Clone, Copy, PartialEq, Eq, Debug)]
+pub enum Table {
+    Holders = 1,
+    Rows = 2,
+    Readings = 3,
+    Issued = 4,
+    Journal = 5,
+}
+
+impl Table {
+    pub fn number(self) -> u8
+        ensures { λ r. ⌜ r ≡ numberOfTable self ⌝ }
+    {
+        self as u8
+    }
+}
+
+// Why a file or a call is refused. Of several reasons the lowest number is answered, at its first spot.
+#[derive(Clone, Copy, PartialEq, Eq, Debug)]
+pub enum Fault {
+    // a file too short for a header
+    FileTooShort { length: usize },
+    // a file that does not begin with the mark
+    AnotherMark,
+    // a file of a version that is not read
+    AnotherVersion,
+    // a file of a kind that is not read, or not the kind asked for
+    AnotherKind,
+    // a count of records that the kind does not allow
+    CountNotAllowed,
+    // a file longer or shorter than its kind and count give
+    AnotherLength { length: usize },
+    // a term outside its limits
+    TermOutsideLimits { term: Term },
+    // an argument outside its limits, rows that are not a day's, or lines that the journal has not
+    ArgumentOutsideLimits { argument: u8 },
+    // a row of a schedule that the rule does not allow
+    UnlawfulRow { period: u8 },
+    // a schedule or an end that came after the day's gate
+    AfterGate { gate: u32 },
+    // a table of readings or of issued slots that has another size than the terms give
+    AnotherSize { table: Table },
+    // a buffer too short for what is to be written
+    OutputTooShort { needed: usize },
+    // a count above its table's length, or a stored number that cannot be
+    Spoiled { table: Table },
+    // a sender that does not hold place 0 that day
+    SenderNotPrimary { day: u16 },
+    // a schedule on or after the end day, or a second end
+    SharingEnded { day: u16 },
+    // a reading or an issue for a day that is closed
+    DayClosed { day: u16 },
+    // an estimate where an actual reading stands
+    EstimateOverActual { period: u8 },
+    // an issue where a reading is missing
+    ReadingMissing { period: u8 },
+    // an issue where a place has no holder
+    HolderMissing { place: u8 },
+    // a journal too short for the lines held and new
+    JournalTooShort { needed: usize },
+    // a history too short for the entries held and added
+    HistoryFull { needed: usize },
+}
+
+impl Fault {
+    // The refusal's number, from 1.
+    pub fn number(self) -> u8
+        ensures { λ r. ⌜ r ≡ refused self .0 ⌝ }
+    {
+        match self {
+            Fault::FileTooShort { .. } => 1,
+            Fault::AnotherMark => 2,
+            Fault::AnotherVersion => 3,
+            Fault::AnotherKind => 4,
+            Fault::CountNotAllowed => 5,
+            Fault::AnotherLength { .. } => 6,
+            Fault::TermOutsideLimits { .. } => 7,
+            Fault::ArgumentOutsideLimits { .. } => 8,
+            Fault::UnlawfulRow { .. } => 9,
+            Fault::AfterGate { .. } => 10,
+            Fault::AnotherSize { .. } => 11,
+            Fault::OutputTooShort { .. } => 12,
+            Fault::Spoiled { .. } => 13,
+            Fault::SenderNotPrimary { .. } => 14,
+            Fault::SharingEnded { .. } => 15,
+            Fault::DayClosed { .. } => 16,
+            Fault::EstimateOverActual { .. } => 17,
+            Fault::ReadingMissing { .. } => 18,
+            Fault::HolderMissing { .. } => 19,
+            Fault::JournalTooShort { .. } => 20,
+            Fault::HistoryFull { .. } => 21,
+        }
+    }
+
+    // Where it is: a place in the file, a length, or the number of what is at fault.
+    pub fn spot(self) -> u64
+        ensures { λ r. ⌜ r ≡ refused self .1 ⌝ }
+    {
+        match self {
+            Fault::AnotherMark => 0,
+            Fault::AnotherVersion => 3,
+            Fault::AnotherKind => 5,
+            Fault::CountNotAllowed => 6,
+            Fault::FileTooShort { length } | Fault::AnotherLength { length } => length as u64,
+            Fault::TermOutsideLimits { term } => term.number() as u64,
+            Fault::ArgumentOutsideLimits { argument } => argument as u64,
+            Fault::AfterGate { gate } => gate as u64,
+            Fault::AnotherSize { table } | Fault::Spoiled { table } => table.number() as u64,
+            Fault::OutputTooShort { needed }
+            | Fault::JournalTooShort { needed }
+            | Fault::HistoryFull { needed } => needed as u64,
+            Fault::SenderNotPrimary { day }
+            | Fault::SharingEnded { day }
+            | Fault::DayClosed { day } => day as u64,
+            Fault::UnlawfulRow { period }
+            | Fault::EstimateOverActual { period }
+            | Fault::ReadingMissing { period } => period as u64,
+            Fault::HolderMissing { place } => place as u64,
+        }
+    }
+}

@@ -14,8 +14,8 @@ ghost use Rattle.rules.specs.Pairs.{isPair, pairs, percentage, cappedBlock, ne
 ghost use Rattle.rules.specs.Blocks.{modest, isBlocks, blockShares, fixedBlock, multipleBlock};
 ghost use Rattle.rules.specs.First.{opens, afterFirst, firstBlock};
 ghost use Rattle.rules.specs.House.{house};
-ghost use Rattle.rules.specs.Rounding.{Nearest};
-ghost use Rattle.rules.specs.General.{General};
+ghost use Rattle.rules.specs.Rounding.{RoundedTo};
+ghost use Rattle.rules.specs.General.{AsksGeneral};
 ghost use Rattle.rules.specs.Worked.{WorkedHalfHours};
 use domain::MAX_KWH;
 use domain::PERIODS;
@@ -62,7 +62,10 @@ pub impl Rule for Percentage as PercentageRule {
         row.is_pair(WHOLE)
     }
 
-    fn share(&self, row: Row, period: u8, energy: u32, place: usize) -> i64 {
+    fn share(&self, row: Row, period: u8, energy: u32, place: usize) -> i64
+        ensures is { λ r. ⌜ r ≡ answered percentage (agreed (row .entry)) period energy place ⌝ }
+        ensures nearest { λ r. ⌜ (percentage .lawful (agreed (row .entry)) ≡ true → inRange period energy ≡ true → place ≡ 0 → RoundedTo period (firstOf (agreed (row .entry)) * energy) r) ⌝ }
+    {
         if self.is_lawful(row) && in_range(period, energy) {
             pair_share(rounded(row.nominations[0], energy, period), energy, place)
         } else {
@@ -83,7 +86,8 @@ fn rounded(hundredths: u32, energy: u32, period: u8) -> u32
     let exact = hundredths as u64 * energy as u64;
     let kwh = (exact / 10_000) as u32;
     let rest = exact % 10_000;
-    if rest > 5_000 || rest == 5_000 && period % 2 == 1 {
+    let odd = period % 2 == 1;
+    if rest > 5_000 || rest == 5_000 && odd {
         kwh + 1
     } else {
         kwh
@@ -302,6 +306,7 @@ pub impl Rule for House as HouseRule {
     }
 
     fn share(&self, row: Row, period: u8, energy: u32, place: usize) -> i64 {
+        // Of all rules only this one reads the method.
         match row.method {
             1 => Percentage.share(row, period, energy, place),
             2 => CappedBlock.share(row, period, energy, place),
@@ -324,6 +329,11 @@ const MULTIPLE_AFTER_ONE: FirstBlock<MultipleBlock> = FirstBlock {
 const PERCENTAGE_AFTER_TWO: FirstBlock<FirstBlock<Percentage>> = FirstBlock {
     below: PERCENTAGE_AFTER_ONE,
 };
+
+// All seven methods ask that the balance place is one of the row's and nominates nothing, and that no nomination exceeds the limit.
+pub fn general_conditions()
+    ensures { λ _. ⌜ AsksGeneral house ⌝ }
+{}
 
 // The definitions give the half hours that were worked by hand.
 pub fn worked_half_hours()

@@ -10,10 +10,10 @@ cast-kwh c = omega (arith, mul-le-mul-right (c .args .energy) (c .pre))
 pub add-result : need.add-result
 add-result c = omega (arith, mul-le-mul-right (c .args .energy) (c .pre))
 
-pub returns-then-period-eq1 : need.returns-then-period-eq1
-returns-then-period-eq1 c =
+pub returns-then-odd : need.returns-then-odd
+returns-then-odd c =
     record { is = grind (arith, tells); within = let h = nearest-le (c .args .period) (c .args .hundredths) (c .args .energy) (c .pre) in grind (arith, tells) }
 
-pub returns-else-period-eq1 : need.returns-else-period-eq1
-returns-else-period-eq1 c =
+pub returns-else-odd : need.returns-else-odd
+returns-else-odd c =
     record { is = grind (arith, tells); within = let h = nearest-le (c .args .period) (c .args .hundredths) (c .args .energy) (c .pre) in grind (arith, tells) }
