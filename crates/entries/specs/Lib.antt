@@ -1,0 +1,4 @@
+pub mod Faults
+pub mod Fields
+pub mod Held
+pub mod Reading
