@@ -7,7 +7,8 @@ use lib.ListN.{getD}
 use lib.IntN.{ℤ, pos}
 use Rattle.std.specs.declared.option.Option.{Option}
 use Rattle.std.specs.declared.option.Option.the-variants.{Some, None}
-use Rattle.rules.specs.Meaning.{Agreement, Meaning, inRange}
+use Rattle.std.specs.Options.{isSome, valueOr}
+use Rattle.rules.specs.Meaning.{Agreement, Meaning, inRange, answered}
 use Rattle.rules.specs.Pairs.{firstOf}
 use Rattle.rules.specs.First.{opens, afterFirst, firstBlock}
 use Rattle.recount.specs.Told.{split, told, layers}
@@ -69,3 +70,20 @@ module _ (m k : Meaning) (t u : Agreement) (p e left i j : ℕ) (layered : k ≡
 
   pub some-below : (z : ℤ) → left ≡ e - firstOf t → (i ≡ 0 → ⊥) → j ≡ i - 1 → _≡_ {A = Option ℤ} (Some z) (split m u p left j) → _≡_ {A = Option ℤ} (Some z) (split k t p e i)
   some-below z rest other place below = rw layered (peel-below m t p e left i z opened rest other (rw (under, place) at below))
+
+-- whether there is an answer, and which
+isSome-if : {A : Type 0} (b : Bool) (x : A) → isSome (cond b (Some x) None) ≡ b
+isSome-if true x = refl
+isSome-if false x = refl
+
+valueOr-if : {A : Type 0} (b : Bool) (x d : A) → valueOr (cond b (Some x) None) d ≡ cond b x d
+valueOr-if true x d = refl
+valueOr-if false x d = refl
+
+pub lawful-told : (m : Meaning) (t u : Agreement) (p e i : ℕ) (r : Option ℤ) → u ≡ t → r ≡ split m u p e i → isSome r ≡ m .lawful t
+lawful-told m t u p e i r same is =
+    ap isSome (is ∙ ap (λ x. split m x p e i) same) ∙ isSome-if (m .lawful t) (getD (m .shares t p e) i (pos 0))
+
+pub share-told : (m : Meaning) (t u : Agreement) (p e i : ℕ) (r : Option ℤ) → u ≡ t → r ≡ told m u p e i → valueOr r (pos 0) ≡ answered m t p e i
+share-told m t u p e i r same is =
+    ap (λ o. valueOr o (pos 0)) (is ∙ ap (λ x. told m x p e i) same) ∙ valueOr-if (m .lawful t && inRange p e) (getD (m .shares t p e) i (pos 0)) (pos 0)

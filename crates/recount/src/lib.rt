@@ -1,4 +1,4 @@
-// The house rule's shares worked out a second way: no code of the rules, and no division.
+// The house rule's shares worked out a second way: nothing of the rules but the trait and the row, and no division.
 ghost use mathlib.Core.Path.{_≡_};
 ghost use mathlib.Core.Bool.{cond, not, _&&_};
 ghost use mathlib.Core.List.{[], _∷_};
@@ -9,6 +9,7 @@ ghost use lib.ListN.{drop, getD};
 ghost use Rattle.std.specs.declared.option.Option.the-variants.{Some, None};
 ghost use Rattle.std.specs.shelf.Lists.{sum};
 ghost use Rattle.rules.specs.Meaning.{inRange};
+ghost use Rattle.rules.specs.Agreed.{agreed};
 ghost use Rattle.rules.specs.Pairs.{isPair, firstOf, nearest};
 ghost use Rattle.rules.specs.Blocks.{modest, blocks};
 ghost use Rattle.rules.specs.House.{house};
@@ -16,14 +17,32 @@ ghost use Rattle.recount.specs.Told.{told, split, layers};
 ghost use Rattle.recount.specs.Entered.{entered, kind, Fronts};
 use domain::MAX_KWH;
 use domain::PERIODS;
+use rules::Row;
+use rules::Rule;
 
-// What the parties agreed for one half hour, as the rules' row has it.
+// The second calculation, a rule that means what the house rule means.
 #[derive(Clone, Copy)]
-pub struct Entry<'a> {
-    pub method: u8,
-    pub capacity: u32,
-    pub nominations: &'a [u32],
-    pub balance: u8,
+pub struct Recount;
+
+pub impl Rule for Recount as RecountRule {
+    ghost meaning = { λ _. house };
+
+    fn is_lawful(&self, row: Row) -> bool {
+        Entry::of(row).by_method(1, 0, 0).is_some()
+    }
+
+    fn share(&self, row: Row, period: u8, energy: u32, place: usize) -> i64 {
+        in_range_share(Entry::of(row), period, energy, place).unwrap_or(0)
+    }
+}
+
+// What the parties agreed for one half hour.
+#[derive(Clone, Copy)]
+struct Entry<'a> {
+    method: u8,
+    capacity: u32,
+    nominations: &'a [u32],
+    balance: u8,
 }
 
 // How what is left after the first blocks is split.
@@ -36,7 +55,7 @@ enum Kind {
 }
 
 // The kWh of a place, or none for an unlawful row, a period outside the day or too much energy.
-pub fn recount(entry: Entry, period: u8, energy: u32, place: usize) -> Option<i64>
+fn in_range_share(entry: Entry, period: u8, energy: u32, place: usize) -> Option<i64>
     ensures { λ r. ⌜ r ≡ told house (entered (entry .entry)) period energy place ⌝ }
 {
     if outside(period, energy) {
@@ -60,6 +79,17 @@ struct Front<'a> {
 }
 
 impl<'a> Entry<'a> {
+    fn of(row: Row<'a>) -> Entry<'a>
+        ensures { λ r. ⌜ entered r ≡ agreed (row .entry) ⌝ }
+    {
+        Entry {
+            method: row.method,
+            capacity: row.capacity,
+            nominations: row.nominations,
+            balance: row.balance,
+        }
+    }
+
     // Each method is so many first blocks and a kind of split.
     fn by_method(self, period: u8, energy: u32, place: usize) -> Option<i64>
         ensures { λ r. ⌜ r ≡ split house (entered (self .entry)) period energy place ⌝ }

@@ -5,7 +5,7 @@ use Rattle.rules.specs.Meaning.{inRange}
 use Rattle.rules.specs.House.{house}
 use Rattle.recount.specs.Entered.{entered}
 use Rattle.recount.proofs.Peeled.{told-in, told-out}
-use Rattle.recount.proofs.recount.Needs as need
+use Rattle.recount.proofs.in_range_share.Needs as need
 
 pub returns-then-outside : need.returns-then-outside
 returns-then-outside c =
