@@ -7,11 +7,11 @@ use lib.ListN.{getD}
 use lib.IntN.{ℤ, pos}
 use Rattle.std.specs.declared.option.Option.{Option}
 use Rattle.std.specs.declared.option.Option.the-variants.{Some, None}
-use Rattle.std.specs.Options.{isSome, valueOr}
+use Rattle.std.specs.Options.{isSome}
 use Rattle.rules.specs.Meaning.{Agreement, Meaning, inRange, answered}
 use Rattle.rules.specs.Pairs.{firstOf}
 use Rattle.rules.specs.First.{opens, afterFirst, firstBlock}
-use Rattle.recount.specs.Told.{split, told, layers}
+use Rattle.recount.specs.Layers.{split, layers}
 
 pub layers-more : (n : ℕ) (m : Meaning) → (n ≡ 0 → ⊥) → layers n m ≡ firstBlock (layers (n - 1) m)
 layers-more zero m some = absurd (some refl)
@@ -22,17 +22,33 @@ pub some-if : {A : Type 0} (b : Bool) (x y : A) → _≡_ {A = Option A} (Some x
 some-if true x y e = (refl, cc)
 some-if false x y e = let no : _≡_ {A = ℕ} 0 1 = cc in absurd (omega arith)
 
+isSome-if : {A : Type 0} (b : Bool) (x : A) → isSome (cond b (Some x) None) ≡ b
+isSome-if true x = refl
+isSome-if false x = refl
+
 -- one that is not there did not
 pub none-if : {A : Type 0} (b : Bool) (y : A) → _≡_ {A = Option A} None (cond b (Some y) None) → b ≡ false
 none-if true y e = let no : _≡_ {A = ℕ} 0 1 = cc in absurd (omega arith)
 none-if false y e = refl
 
--- a period and an energy in range, or not
-pub told-in : (m : Meaning) (t : Agreement) (p e i : ℕ) → inRange p e ≡ true → split m t p e i ≡ told m t p e i
-told-in m t p e i within = grind (arith)
+module _ (m : Meaning) (t : Agreement) (p e i : ℕ) where
+  -- no answer out of range
+  pub answered-out : inRange p e ≡ false → pos 0 ≡ answered m t p e i
+  answered-out out = grind arith
 
-pub told-out : (m : Meaning) (t : Agreement) (p e i : ℕ) → inRange p e ≡ false → _≡_ {A = Option ℤ} None (told m t p e i)
-told-out m t p e i out = grind (arith)
+  -- in range the answer is the split's
+  pub answered-some : (z : ℤ) → inRange p e ≡ true → _≡_ {A = Option ℤ} (Some z) (split m t p e i) → z ≡ answered m t p e i
+  answered-some z within is =
+      let both = some-if (m .lawful t) z _ is in
+      let lawful = both .0 in
+      rw (lawful, within) (both .1)
+
+  pub answered-none : inRange p e ≡ true → _≡_ {A = Option ℤ} None (split m t p e i) → pos 0 ≡ answered m t p e i
+  answered-none within is = let no = none-if (m .lawful t) _ is in rw no refl
+
+  -- there is a split just of a lawful row
+  pub lawful-some : (r : Option ℤ) → r ≡ split m t p e i → isSome r ≡ m .lawful t
+  lawful-some r is = ap isSome is ∙ isSome-if (m .lawful t) (getD (m .shares t p e) i (pos 0))
 
 module _ (m : Meaning) (t : Agreement) (p e : ℕ) where
   -- a row that may not have a first block
@@ -70,20 +86,3 @@ module _ (m k : Meaning) (t u : Agreement) (p e left i j : ℕ) (layered : k ≡
 
   pub some-below : (z : ℤ) → left ≡ e - firstOf t → (i ≡ 0 → ⊥) → j ≡ i - 1 → _≡_ {A = Option ℤ} (Some z) (split m u p left j) → _≡_ {A = Option ℤ} (Some z) (split k t p e i)
   some-below z rest other place below = rw layered (peel-below m t p e left i z opened rest other (rw (under, place) at below))
-
--- whether there is an answer, and which
-isSome-if : {A : Type 0} (b : Bool) (x : A) → isSome (cond b (Some x) None) ≡ b
-isSome-if true x = refl
-isSome-if false x = refl
-
-valueOr-if : {A : Type 0} (b : Bool) (x d : A) → valueOr (cond b (Some x) None) d ≡ cond b x d
-valueOr-if true x d = refl
-valueOr-if false x d = refl
-
-pub lawful-told : (m : Meaning) (t u : Agreement) (p e i : ℕ) (r : Option ℤ) → u ≡ t → r ≡ split m u p e i → isSome r ≡ m .lawful t
-lawful-told m t u p e i r same is =
-    ap isSome (is ∙ ap (λ x. split m x p e i) same) ∙ isSome-if (m .lawful t) (getD (m .shares t p e) i (pos 0))
-
-pub share-told : (m : Meaning) (t u : Agreement) (p e i : ℕ) (r : Option ℤ) → u ≡ t → r ≡ told m u p e i → valueOr r (pos 0) ≡ answered m t p e i
-share-told m t u p e i r same is =
-    ap (λ o. valueOr o (pos 0)) (is ∙ ap (λ x. told m x p e i) same) ∙ valueOr-if (m .lawful t && inRange p e) (getD (m .shares t p e) i (pos 0)) (pos 0)

@@ -16,7 +16,7 @@ use Rattle.std.proofs.shelf.Tests.{lt-leb, le-leb, lt-ltb, eq-eqb, leb-true, an
 use Rattle.domain.specs.Limits.{mostKwh}
 use Rattle.rules.specs.Meaning.{Agreement}
 use Rattle.rules.specs.Blocks.{modest, blocks, blockShares}
-use Rattle.recount.specs.Told.{split}
+use Rattle.recount.specs.Layers.{split}
 use Rattle.recount.proofs.Peeled.{some-if}
 
 module _ (ns : List ℕ) (i : ℕ) (h : i < length ns) where

@@ -8,12 +8,12 @@ ghost use lib.IntN.{pos};
 ghost use lib.ListN.{drop, getD};
 ghost use Rattle.std.specs.declared.option.Option.the-variants.{Some, None};
 ghost use Rattle.std.specs.shelf.Lists.{sum};
-ghost use Rattle.rules.specs.Meaning.{inRange};
+ghost use Rattle.rules.specs.Meaning.{answered, inRange};
 ghost use Rattle.rules.specs.Agreed.{agreed};
 ghost use Rattle.rules.specs.Pairs.{isPair, firstOf, nearest};
 ghost use Rattle.rules.specs.Blocks.{modest, blocks};
 ghost use Rattle.rules.specs.House.{house};
-ghost use Rattle.recount.specs.Told.{told, split, layers};
+ghost use Rattle.recount.specs.Layers.{split, layers};
 ghost use Rattle.recount.specs.Entered.{entered, kind, Fronts};
 use domain::MAX_KWH;
 use domain::PERIODS;
@@ -28,11 +28,11 @@ pub impl Rule for Recount as RecountRule {
     ghost meaning = { λ _. house };
 
     fn is_lawful(&self, row: Row) -> bool {
-        Entry::of(row).by_method(1, 0, 0).is_some()
+        Entry::of(row).is_lawful()
     }
 
     fn share(&self, row: Row, period: u8, energy: u32, place: usize) -> i64 {
-        in_range_share(Entry::of(row), period, energy, place).unwrap_or(0)
+        Entry::of(row).share(period, energy, place)
     }
 }
 
@@ -52,17 +52,6 @@ enum Kind {
     Capped,
     Fixed,
     Multiple,
-}
-
-// The kWh of a place, or none for an unlawful row, a period outside the day or too much energy.
-fn in_range_share(entry: Entry, period: u8, energy: u32, place: usize) -> Option<i64>
-    ensures { λ r. ⌜ r ≡ told house (entered (entry .entry)) period energy place ⌝ }
-{
-    if outside(period, energy) {
-        None
-    } else {
-        entry.by_method(period, energy, place)
-    }
 }
 
 fn outside(period: u8, energy: u32) -> bool
@@ -87,6 +76,24 @@ impl<'a> Entry<'a> {
             capacity: row.capacity,
             nominations: row.nominations,
             balance: row.balance,
+        }
+    }
+
+    fn is_lawful(self) -> bool
+        ensures { λ r. ⌜ r ≡ house .lawful (entered (self .entry)) ⌝ }
+    {
+        self.by_method(1, 0, 0).is_some()
+    }
+
+    fn share(self, period: u8, energy: u32, place: usize) -> i64
+        ensures { λ r. ⌜ r ≡ answered house (entered (self .entry)) period energy place ⌝ }
+    {
+        if outside(period, energy) {
+            return 0;
+        }
+        match self.by_method(period, energy, place) {
+            Some(share) => share,
+            None => 0,
         }
     }
 

@@ -1,20 +1,18 @@
 use mathlib.Core.Path.{_≡_, refl, ap, _∙_}
-use mathlib.Core.Bool.{true, false, _&&_}
+use mathlib.Core.Bool.{true, false, cond, _&&_}
 use mathlib.Core.List.{List, [], _∷_}
 use Prim.Native.Nat.{ℕ, _+_, _-_, _*_, _≤_, _<_}
 use native.Mathlib.Omega.{arith}
-use lib.Dec.{eqb}
+use lib.Dec.{leb}
 use lib.ListN.{length, getD, drop}
 use Rattle.std.specs.Text.{asciiDigit}
 use Rattle.std.specs.shelf.Text.{allDigits}
 use Rattle.std.proofs.shelf.Lists.{at-drop-more, at-drop-all}
-use Rattle.std.specs.declared.result.Result.{Result}
-use Rattle.std.specs.declared.result.Result.the-variants.{Ok, Err}
+use Rattle.std.specs.declared.option.Option.{Option}
+use Rattle.std.specs.declared.option.Option.the-variants.{Some, None}
 use Rattle.std.proofs.shelf.Tests.{and-parts, lt-leb, le-leb}
 use Rattle.std.proofs.shelf.Ways.{tells}
-use Rattle.text.specs.declared.Misread.{Misread}
-use Rattle.text.specs.declared.Misread.the-variants.{TooLarge}
-use Rattle.text.specs.Numbers.{numberAfter, decimalIn}
+use Rattle.text.specs.Numbers.{numberAfter}
 
 -- more digits make no number smaller
 pub numberAfter-ge : (n : ℕ) (cs : List ℕ) → n ≤ numberAfter n cs
@@ -39,9 +37,9 @@ module _ (xs : List ℕ) (i : ℕ) (h : i < length xs) where
   pub numberAfter-more : (n : ℕ) → numberAfter n (drop i xs) ≡ numberAfter (n * 10 + (getD xs i 0 - 48)) (drop (i + 1) xs)
   numberAfter-more n = at-drop-more (numberAfter n) xs i 0 h
 
-pub decimal-large : (w : List ℕ) (most : ℕ) → eqb (length w) 0 ≡ false → allDigits w ≡ true → most < numberAfter 0 w → _≡_ {A = Result ℕ Misread} (Err TooLarge) (decimalIn w most)
-decimal-large w most some digits over = let no = lt-leb (numberAfter 0 w) most over in rw (some, digits, no) refl
+pub value-large : (w : List ℕ) (most : ℕ) → most < numberAfter 0 w → _≡_ {A = Option ℕ} None (cond (leb (numberAfter 0 w) most) (Some (numberAfter 0 w)) None)
+value-large w most over = let no = lt-leb (numberAfter 0 w) most over in rw no refl
 
-pub decimal-fits : (w : List ℕ) (most n : ℕ) → eqb (length w) 0 ≡ false → allDigits w ≡ true → n ≡ numberAfter 0 w → n ≤ most → _≡_ {A = Result ℕ Misread} (Ok n) (decimalIn w most)
-decimal-fits w most n some digits is within =
-    let ok = le-leb (numberAfter 0 w) most (omega arith) in rw (some, digits, ok) (ap Ok is)
+pub value-fits : (w : List ℕ) (most n : ℕ) → n ≡ numberAfter 0 w → n ≤ most → _≡_ {A = Option ℕ} (Some n) (cond (leb (numberAfter 0 w) most) (Some (numberAfter 0 w)) None)
+value-fits w most n is within =
+    let ok = le-leb (numberAfter 0 w) most (omega arith) in rw ok (ap Some is)

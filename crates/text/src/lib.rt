@@ -1,14 +1,17 @@
 // Lines, words and decimal numbers in bytes that need not be text.
 ghost use mathlib.Core.Path.{_≡_};
-ghost use mathlib.Core.Bool.{not};
-ghost use Prim.Native.Nat.{_≤_};
-ghost use lib.Dec.{eqb};
+ghost use mathlib.Core.Bool.{cond, not, true};
+ghost use mathlib.Core.List.{[]};
+ghost use Prim.Native.Nat.{_<_, _≤_};
+ghost use lib.Dec.{eqb, leb};
 ghost use lib.ListN.{drop, length};
+ghost use Rattle.std.specs.Orderings.{When};
+ghost use Rattle.std.specs.declared.option.Option.the-variants.{Some, None};
 ghost use Rattle.std.specs.shelf.Lists.{leading};
 ghost use Rattle.std.specs.shelf.Text.{allDigits};
 ghost use Rattle.text.specs.Words.{blank, wordsOf, linesOf, uncommented};
-ghost use Rattle.text.specs.Pieces.{Hands};
-ghost use Rattle.text.specs.Numbers.{decimalIn};
+ghost use Rattle.text.specs.Pieces.{Begins, Hands, Heads};
+ghost use Rattle.text.specs.Numbers.{decimalIn, numberAfter};
 
 // The first piece of some bytes, and what follows it.
 #[derive(Clone, Copy)]
@@ -28,14 +31,11 @@ pub enum Misread {
 pub fn next_line(input: &[u8]) -> Option<Piece<'_>>
     ensures { λ r. ⌜ Hands linesOf (now (input .entry)) r ⌝ }
 {
-    if input.is_empty() {
-        return None;
+    if has_line(input) {
+        Some(first_line(input))
+    } else {
+        None
     }
-    let (first, tail) = input.split_at(count_before(input, b'\n'));
-    Some(Piece {
-        first,
-        rest: after_first(tail),
-    })
 }
 
 // The part of a line before its comment, which begins with `#`.
@@ -50,12 +50,12 @@ pub fn before_comment(line: &[u8]) -> &[u8]
 pub fn next_word(line: &[u8]) -> Option<Piece<'_>>
     ensures { λ r. ⌜ Hands wordsOf (now (line .entry)) r ⌝ }
 {
-    let (_, tail) = line.split_at(count_blanks(line));
-    let (first, rest) = tail.split_at(count_letters(tail));
-    if first.is_empty() {
-        return None;
+    let tail = skip_blanks(line);
+    if tail.is_empty() {
+        None
+    } else {
+        Some(first_word(tail))
     }
-    Some(Piece { first, rest })
 }
 
 // The number that a word of decimal digits writes, if it is at most `most`.
@@ -65,15 +65,59 @@ pub fn read_decimal(word: &[u8], most: u64) -> Result<u64, Misread>
     if word.is_empty() || !all_digits(word) {
         return Err(Misread::NotDecimal);
     }
+    match value_within(word, most) {
+        Some(value) => Ok(value),
+        None => Err(Misread::TooLarge),
+    }
+}
+
+fn has_line(input: &[u8]) -> bool
+    ensures { λ r. ⌜ When r (0 < length (now (input .entry))) (linesOf (now (input .entry)) ≡ []) ⌝ }
+{
+    !input.is_empty()
+}
+
+fn first_line(input: &[u8]) -> Piece<'_>
+    requires { ⌜ 0 < length (now input) ⌝ }
+    ensures { λ r. ⌜ Heads linesOf (now (input .entry)) r ⌝ }
+{
+    let (first, tail) = input.split_at(count_before(input, b'\n'));
+    Piece {
+        first,
+        rest: after_first(tail),
+    }
+}
+
+fn skip_blanks(line: &[u8]) -> &[u8]
+    ensures { λ r. ⌜ Begins (now (line .entry)) (now r) ⌝ }
+{
+    let (_, tail) = line.split_at(count_blanks(line));
+    tail
+}
+
+// The first word of a line that begins with it.
+fn first_word(tail: &[u8]) -> Piece<'_>
+    requires { ⌜ 0 < leading (λ c. not (blank c)) (now tail) ⌝ }
+    ensures { λ r. ⌜ Heads wordsOf (now (tail .entry)) r ⌝ }
+{
+    let (first, rest) = tail.split_at(count_letters(tail));
+    Piece { first, rest }
+}
+
+// The number that digits write, if it is at most `most`.
+fn value_within(word: &[u8], most: u64) -> Option<u64>
+    requires { ⌜ allDigits (now word) ≡ true ⌝ }
+    ensures { λ r. ⌜ r ≡ cond (leb (numberAfter 0 (now (word .entry))) most) (Some (numberAfter 0 (now (word .entry)))) None ⌝ }
+{
     let mut value = 0;
     for digit in word {
         let next = u128::from(value) * 10 + u128::from(*digit - b'0');
         if next > u128::from(most) {
-            return Err(Misread::TooLarge);
+            return None;
         }
         value = next as u64;
     }
-    Ok(value)
+    Some(value)
 }
 
 fn all_digits(word: &[u8]) -> bool

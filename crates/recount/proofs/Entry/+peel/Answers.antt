@@ -7,7 +7,7 @@ use mir.Val.{toZ, ofZ}
 use Rattle.std.specs.declared.option.Option.the-variants.{Some}
 use Rattle.std.proofs.shelf.Signed.{ints}
 use Rattle.recount.specs.Entered.{entered, kind}
-use Rattle.recount.specs.Told.{layers}
+use Rattle.recount.specs.Layers.{layers}
 use Rattle.recount.proofs.Peeled.{layers-more, peel-shut, none-below, some-here, some-below}
 use Rattle.recount.proofs.Entry.+peel.Needs as need
 
