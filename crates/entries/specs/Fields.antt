@@ -33,16 +33,19 @@ abbrev pub numberIn : ℕ → ℕ → List (List ℕ) → Result ℕ Fault
 numberIn k most [] = Err (Missing k)
 numberIn k most (w ∷ ws) = wordNumber k most w
 
--- the largest numbers of 8 and of 32 bits
+-- the largest number of 8 bits
 abbrev pub byteMost : ℕ
 byteMost = 255
 
+-- the largest number of 32 bits
 abbrev pub wordMost : ℕ
 wordMost = 4294967295
 
+-- the period, which is the first word
 abbrev pub periodIn : List (List ℕ) → Result ℕ Fault
 periodIn ws = andThen (numberIn 1 byteMost ws) (λ p. cond (leb 1 p && leb p periods) (Ok p) (Err Period))
 
+-- the energy, which is the second
 abbrev pub energyIn : List (List ℕ) → Result ℕ Fault
 energyIn ws = andThen (numberIn 2 wordMost ws) (λ e. cond (leb e mostKwh) (Ok e) (Err Energy))
 

@@ -10,6 +10,7 @@ pub record Half : Type 0 where
   pub energy : ℕ
   pub row : Agreement
 
+-- a half hour from its numbers, in the order of a line
 abbrev pub halfOf : ℕ → ℕ → ℕ → ℕ → ℕ → List ℕ → Half
 halfOf p e m c b ns =
     record { period = p; energy = e; row = record { method = m; capacity = c; nominations = ns; balance = b } }

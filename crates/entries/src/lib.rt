@@ -22,7 +22,7 @@ use text::next_word;
 use text::read_decimal;
 
 // A row may have at most so many nominations here, more than any rule of the house takes.
-pub const MAX_NOMINATIONS: usize = 16;
+const MAX_NOMINATIONS: usize = 16;
 
 // What is wrong with a line, mostly with the number of the word where it shows.
 #[derive(Clone, Copy)]
@@ -57,7 +57,7 @@ pub enum Unread {
     NoMemory,
 }
 
-pub impl From<Fault> for Unread as UnreadFromFault {
+impl From<Fault> for Unread as UnreadFromFault {
     ghost converts = { λ f r. r ≡ Malformed f };
 
     fn from(fault: Fault) -> Unread {
@@ -65,7 +65,7 @@ pub impl From<Fault> for Unread as UnreadFromFault {
     }
 }
 
-pub impl<T: Drop> From<Refused<T>> for Unread as UnreadFromRefused {
+impl<T: Drop> From<Refused<T>> for Unread as UnreadFromRefused {
     ghost converts = { λ _ r. r ≡ NoMemory };
 
     fn from(_refused: Refused<T>) -> Unread {

@@ -41,14 +41,16 @@ comparedOutcome lawful x y = cond (sameBytes x y) (cond lawful Split Unlawful) D
 abbrev pub halfText : Meaning → Meaning → Half → List ℕ
 halfText m k h = comparedText h (figureText m h) (figureText k h)
 
+-- what a half hour came to
 abbrev pub halfOutcome : Meaning → Meaning → Half → Outcome
 halfOutcome m k h = comparedOutcome (m .lawful (h .row)) (figureText m h) (figureText k h)
 
--- what is printed for a line's words: a half hour, or what is wrong with the line n
+-- what is printed for what was read: a half hour, or what is wrong with the line n
 abbrev pub readText : Meaning → Meaning → ℕ → Result Half Fault → List ℕ
 readText m k n (Ok h) = halfText m k h
 readText m k n (Err f) = codes "line " ++ (decimal n ++ (codes ": " ++ (faultText f ++ codes "\n")))
 
+-- what is printed for the words of the line n: nothing if there are none
 abbrev pub wordsText : Meaning → Meaning → ℕ → List (List ℕ) → List ℕ
 wordsText m k n [] = []
 wordsText m k n (w ∷ ws) = readText m k n (halfHourIn (w ∷ ws))
@@ -57,10 +59,12 @@ wordsText m k n (w ∷ ws) = readText m k n (halfHourIn (w ∷ ws))
 abbrev pub lineText : Meaning → Meaning → ℕ → List ℕ → List ℕ
 lineText m k n line = wordsText m k n (wordsOf (uncommented line))
 
+-- what it came to that was read
 abbrev pub readOutcome : Meaning → Meaning → Result Half Fault → Outcome
 readOutcome m k (Ok h) = halfOutcome m k h
 readOutcome m k (Err f) = Malformed
 
+-- what a line's words came to
 abbrev pub wordsOutcome : Meaning → Meaning → List (List ℕ) → Outcome
 wordsOutcome m k [] = Blank
 wordsOutcome m k (w ∷ ws) = readOutcome m k (halfHourIn (w ∷ ws))

@@ -9,6 +9,7 @@ use Rattle.worksheet.specs.declared.Outcome.the-variants.{Blank, Split, Unlawf
 use Rattle.worksheet.specs.declared.Tally.{Tally}
 use Rattle.worksheet.specs.Lines.{lineText, lineOutcome}
 
+-- so many half hours split, unlawful, malformed and differing
 abbrev pub tallyOf : ℕ → ℕ → ℕ → ℕ → Tally
 tallyOf s u m d = record { split = s; unlawful = u; malformed = m; differing = d }
 
