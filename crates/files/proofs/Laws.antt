@@ -14,7 +14,7 @@ use Rattle.std.proofs.shelf.Lists.{drop-more, drop-all, append-nil}
 use Rattle.std.proofs.shelf.Elements.{all-drop}
 use Rattle.domain.specs.declared.AllocationRow.{AllocationRow}
 use Rattle.files.specs.Bytes.{Bytes, word16, word32, number16, number32, unpacked}
-use Rattle.files.specs.Records.{encodedReading, decodedReading, encodedLine, decodedLine, Whole32, rowSize, encodedRow, decodedRow, WholeRow}
+use Rattle.files.specs.Records.{encodedReading, decodedReading, encodedLine, decodedLine, Whole32, rowSize, encodedRow, decodedRow, WholeRow, encodedIntro, decodedIntro}
 use Rattle.files.proofs.Packs.{length-joined, unpacked-joined, joined-unpacked}
 use Rattle.files.proofs.Words.{listed, by-listed, word16-again, word32-again}
 
@@ -33,6 +33,18 @@ pub reading-again : (bs : List ℕ) → length bs ≡ 8 → Bytes bs → encoded
 reading-again bs h =
     let P : List ℕ → Type 0 = λ bs. Bytes bs → encodedReading (decodedReading bs) ≡ bs in
     by-listed P 8 bs h (reading-bytes _ _ _ _ _ _ _ _)
+
+intro-bytes : (a b c d e f g h : ℕ) → Bytes (a ∷ b ∷ c ∷ d ∷ e ∷ f ∷ g ∷ h ∷ []) → encodedIntro (decodedIntro (a ∷ b ∷ c ∷ d ∷ e ∷ f ∷ g ∷ h ∷ [])) ≡ a ∷ b ∷ c ∷ d ∷ e ∷ f ∷ g ∷ h ∷ []
+intro-bytes a b c d e f g h all =
+    let sender = word16-again a b (omega arith) (omega arith) in
+    let day = word16-again c d (omega arith) (omega arith) in
+    let moment = word32-again e f g h (omega arith) (omega arith) (omega arith) (omega arith) in
+    cc
+
+pub intro-again : (bs : List ℕ) → length bs ≡ 8 → Bytes bs → encodedIntro (decodedIntro bs) ≡ bs
+intro-again bs h =
+    let P : List ℕ → Type 0 = λ bs. Bytes bs → encodedIntro (decodedIntro bs) ≡ bs in
+    by-listed P 8 bs h (intro-bytes _ _ _ _ _ _ _ _)
 
 line-bytes : (a b c d e f g h i j k : ℕ) → Bytes (a ∷ b ∷ c ∷ d ∷ e ∷ f ∷ g ∷ h ∷ i ∷ j ∷ k ∷ []) → encodedLine (decodedLine (a ∷ b ∷ c ∷ d ∷ e ∷ f ∷ g ∷ h ∷ i ∷ j ∷ k ∷ [])) ≡ a ∷ b ∷ c ∷ d ∷ e ∷ f ∷ g ∷ h ∷ i ∷ j ∷ k ∷ []
 line-bytes a b c d e f g h i j k all =
@@ -85,9 +97,3 @@ row-written row out w t k h size short wrote =
     let all : w ≡ j = wrote ∙ ap (λ t. j ++ t) (drop-all 32 t short) ∙ append-nil j in
     let P : List ℕ → Type 0 = λ out. putMid 2 k (set (set out 0 m) 1 b) w ≡ m ∷ b ∷ j in
     subst P (sym shape) (ap (λ t. m ∷ b ∷ t) (ap (λ t. w ++ t) none ∙ append-nil w ∙ all))
-
--- the first two bytes and the others are bytes
-pub row-bytes : (bs : List ℕ) → length bs ≡ rowSize → getD bs 0 0 < 256 → getD bs 1 0 < 256 → Bytes (drop 2 bs) → Bytes bs
-row-bytes bs h first second rest =
-    let shape : bs ≡ getD bs 0 0 ∷ getD bs 1 0 ∷ drop 2 bs = drop-more bs 0 0 (omega arith) ∙ ap (λ t. getD bs 0 0 ∷ t) (drop-more bs 1 0 (omega arith)) in
-    subst Bytes (sym shape) (first, (second, rest))

@@ -1,3 +1,5 @@
 pub mod Packs
 pub mod Words
 pub mod Laws
+pub mod Buffers
+pub mod Backs

@@ -6,13 +6,15 @@ use native.Mathlib.Nat.{add-mul, mul-le-mul-right, zero-mul, one-mul, div-mul-le
 use native.Mathlib.Omega.{arith}
 use lib.ListN.{length, getD, set, take, drop, length-append, length-take, length-drop}
 use lib.Seq.{take-append-le}
+use mir.Syntax.{w8}
+use mir.Val.{Fits}
 use borrow.Rule.Slice.PartMut.{putMid}
 use Rattle.std.specs.shelf.Lists.{All, joined}
 use Rattle.std.specs.shelf.Maps.{nth}
 use Rattle.std.specs.declared.option.Option.the-variants.{Some}
 use Rattle.files.specs.Bytes.{Bytes, unpacked}
 use Rattle.std.proofs.shelf.Lists.{take-more, take-at, drop-at, drop-drop, length-take-le, take-all, joined-more, nil-from-length, take-append-drop, take-more-set, take-take, drop-take}
-use Rattle.std.proofs.shelf.Elements.{all-append, all-take, all-drop}
+use Rattle.std.proofs.shelf.Elements.{all-from-getD, all-take, all-drop}
 
 -- one more record ends within the room for all of them
 pub room-more : (i n s m : ℕ) → i < n → n * s ≤ m → i * s + s ≤ m
@@ -121,19 +123,17 @@ part-is i r s bs e =
     let at : i * r ≡ i * s = ap (λ m. i * m) e in
     cc
 
-pub bytes-next : (i s : ℕ) (bs part : List ℕ) → Bytes (take (i * s) bs) → part ≡ take s (drop (i * s) bs) → Bytes part → Bytes (take ((i + 1) * s) bs)
-bytes-next i s bs part all is more =
-    subst Bytes (ap (λ t. take (i * s) bs ++ t) is ∙ sym (take-next i s bs)) (all-append (λ b. b < 256) (take (i * s) bs) part all more)
-
-pub bytes-none : (s : ℕ) (bs : List ℕ) → Bytes (take (0 * s) bs)
-bytes-none s bs = subst Bytes (ap (λ n. take n bs) (sym (zero-mul s))) tt
-
 pub unpacked-none : {X : Type 0} (d : List ℕ → X) (s : ℕ) (bs : List ℕ) → [] ≡ unpacked d s 0 bs
 unfolding unpacked
 unpacked-none d s bs = refl
 
-pub bytes-end : (n : ℕ) (bs : List ℕ) → length bs ≡ n → Bytes (take n bs) → Bytes bs
-bytes-end n bs h all = subst Bytes (take-all n bs (omega arith)) all
+-- the elements of a slice of bytes are bytes
+pub bytes-typed : (bs : List ℕ) → ((i : ℕ) → Fits w8 (getD bs i 0)) → Bytes bs
+bytes-typed bs typed = all-from-getD (λ b. b < 256) bs 0 (λ i h. typed i .fits)
+
+-- and so are those of a part of it
+pub bytes-part : (n at : ℕ) (bs : List ℕ) → Bytes bs → Bytes (take n (drop at bs))
+bytes-part n at bs all = all-take (λ b. b < 256) n (drop at bs) (all-drop (λ b. b < 256) at bs all)
 
 -- what a list holds when one more record has been read into it
 pub read-turn : {X : Type 0} (d : List ℕ → X) (s i : ℕ) (bs part : List ℕ) (xs : List X) (x : X) → i < length xs → take i xs ≡ unpacked d s i bs → part ≡ take s (drop (i * s) bs) → x ≡ d part → take (i + 1) (set xs i x) ≡ unpacked d s (i + 1) bs

@@ -1,8 +1,10 @@
 -- Numbers in bytes, and lists of records in bytes.
 use mathlib.Core.List.{List, [], _∷_}
 use Prim.Native.Nat.{ℕ, zero, suc, _+_, _*_, _/_, _%_, _<_}
-use lib.ListN.{getD, take, drop}
+use lib.ListN.{length, getD, take, drop}
 use Rattle.std.specs.shelf.Lists.{All}
+use Rattle.std.specs.shelf.Maps.{nth}
+use Rattle.std.specs.declared.option.Option.{Option}
 
 -- each number is a byte
 abbrev pub Bytes : List ℕ → Type 0
@@ -28,3 +30,7 @@ number32 bs = getD bs 0 0 * 16777216 + getD bs 1 0 * 65536 + getD bs 2 0 * 256 +
 unfoldable pub unpacked : {X : Type 0} → (List ℕ → X) → ℕ → ℕ → List ℕ → List X
 unpacked decode size zero bs = []
 unpacked decode size (suc n) bs = decode (take size bs) ∷ unpacked decode size n (drop size bs)
+
+-- the record at a place, of as many as the bytes have, or none past the last
+abbrev pub recordIn : {X : Type 0} → (List ℕ → X) → ℕ → List ℕ → ℕ → Option X
+recordIn decode size bs index = nth (unpacked decode size (length bs / size) bs) index

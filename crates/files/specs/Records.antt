@@ -11,6 +11,7 @@ use Rattle.domain.specs.declared.AllocationRow.{AllocationRow}
 use Rattle.domain.specs.declared.Line.{Line}
 use Rattle.files.specs.Bytes.{word16, word32, number16, number32, unpacked}
 use Rattle.files.specs.declared.records.ReadingRecord.{ReadingRecord}
+use Rattle.files.specs.declared.records.Intro.{Intro}
 
 -- a number fits 32 bits
 abbrev pub Whole32 : ℕ → Type 0
@@ -63,3 +64,19 @@ decodedLine bs = record { day = number16 bs; period = getD bs 2 0; place = getD 
 -- the fields of a line fit their widths
 abbrev pub WholeLine : Line → Type 0
 WholeLine l = (l .day < 65536) × (l .supplier < 65536) × SFits w32 (l .volume)
+
+-- bytes of the numbers before a schedule's rows: sender, day and moment
+abbrev pub introSize : ℕ
+introSize = 8
+
+-- the bytes of those numbers
+abbrev pub encodedIntro : Intro → List ℕ
+encodedIntro i = word16 (i .sender) ++ (word16 (i .day) ++ word32 (i .moment))
+
+-- the numbers that bytes stand for
+abbrev pub decodedIntro : List ℕ → Intro
+decodedIntro bs = record { sender = number16 bs; day = number16 (drop 2 bs); moment = number32 (drop 4 bs) }
+
+-- those numbers fit their widths
+abbrev pub WholeIntro : Intro → Type 0
+WholeIntro i = (i .sender < 65536) × (i .day < 65536) × (i .moment < 4294967296)

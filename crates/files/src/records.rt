@@ -5,9 +5,12 @@ ghost use mathlib.Core.List.{List, _++_};
 ghost use Prim.Native.Nat.{ℕ, _+_, _-_, _*_, _/_, _<_, _≤_};
 ghost use lib.ListN.{length, getD, drop};
 ghost use Rattle.std.specs.shelf.Lists.{All, joined};
-ghost use Rattle.std.specs.shelf.Maps.{nth};
-ghost use Rattle.files.specs.Bytes.{Bytes, word32, number32, unpacked};
-ghost use Rattle.files.specs.Records.{Whole32, rowSize, encodedRow, decodedRow, WholeRow, readingSize, encodedReading, decodedReading, WholeReading, lineSize, encodedLine, decodedLine, WholeLine};
+ghost use Rattle.files.specs.Bytes.{Bytes, word32, number32, unpacked, recordIn};
+ghost use Rattle.files.specs.Records.{Whole32, rowSize, encodedRow, decodedRow, WholeRow, readingSize, encodedReading, decodedReading, WholeReading, lineSize, encodedLine, decodedLine, WholeLine, introSize, encodedIntro, decodedIntro, WholeIntro};
+use crate::formats::INTRO;
+use crate::formats::LINE;
+use crate::formats::READING;
+use crate::formats::ROW;
 use domain::AllocationRow;
 use domain::Line;
 use domain::NOMINATIONS;
@@ -52,8 +55,7 @@ pub(crate) trait Record: Copy {
     // The record that the bytes stand for.
     fn decode(bytes: &[u8]) -> Self
         requires { ⌜ length (now bytes) ≡ size ⌝ }
-        ensures value { λ r. ⌜ r ≡ decoded (now (bytes .entry)) ⌝ }
-        ensures fits { λ _. ⌜ Bytes (now (bytes .entry)) ⌝ };
+        ensures { λ r. ⌜ r ≡ decoded (now (bytes .entry)) ⌝ };
 }
 
 // Writes the records one after the other, and leaves what lies past them.
@@ -72,8 +74,7 @@ pub(crate) fn write_records<R: Record>(records: &[R], out: &mut [u8])
 // Reads as many records as `out` has room for from their bytes, one after the other.
 pub(crate) fn read_records<R: Record>(bytes: &[u8], out: &mut [R])
     requires { ⌜ length (now bytes) ≡ length (now out) * R·Record .size ⌝ }
-    ensures after { λ _. ⌜ now (out .exit) ≡ unpacked (R·Record .decoded) (R·Record .size) (length (now (out .entry))) (now (bytes .entry)) ⌝ }
-    ensures fits { λ _. ⌜ Bytes (now (bytes .entry)) ⌝ }
+    ensures { λ _. ⌜ now (out .exit) ≡ unpacked (R·Record .decoded) (R·Record .size) (length (now (out .entry))) (now (bytes .entry)) ⌝ }
 {
     let size = R::size();
     for i in 0..out.len() {
@@ -85,8 +86,7 @@ pub(crate) fn read_records<R: Record>(bytes: &[u8], out: &mut [R])
 // Writes the records that the bytes stand for again, one after the other, and leaves what lies past them.
 pub(crate) fn copy_records<R: Record>(bytes: &[u8], count: usize, out: &mut [u8])
     requires { ⌜ length (now bytes) ≡ count * R·Record .size ⌝ ∗ ⌜ length (now bytes) ≤ length (now out) ⌝ }
-    ensures after { λ _. ⌜ now (out .exit) ≡ now (bytes .entry) ++ drop (length (now (bytes .entry))) (now (out .entry)) ⌝ }
-    ensures fits { λ _. ⌜ Bytes (now (bytes .entry)) ⌝ }
+    ensures { λ _. ⌜ now (out .exit) ≡ now (bytes .entry) ++ drop (length (now (bytes .entry))) (now (out .entry)) ⌝ }
 {
     let size = R::size();
     for i in 0..count {
@@ -97,7 +97,7 @@ pub(crate) fn copy_records<R: Record>(bytes: &[u8], count: usize, out: &mut [u8]
 
 // The record at an index, or none past the last.
 pub(crate) fn record_at<R: Record>(bytes: &[u8], index: usize) -> Option<R>
-    ensures { λ r. ⌜ r ≡ nth (unpacked (R·Record .decoded) (R·Record .size) (length (now (bytes .entry)) / R·Record .size) (now (bytes .entry))) index ⌝ }
+    ensures { λ r. ⌜ r ≡ recordIn (R·Record .decoded) (R·Record .size) (now (bytes .entry)) index ⌝ }
 {
     let size = R::size();
     if index >= bytes.len() / size {
@@ -129,7 +129,7 @@ impl Record for u32 as NumberRecord {
     }
 }
 
-impl Record for ReadingRecord as ReadingRecordBytes {
+pub(crate) impl Record for ReadingRecord as ReadingRecordBytes {
     ghost size = { readingSize };
 
     ghost encoded = { encodedReading };
@@ -139,7 +139,7 @@ impl Record for ReadingRecord as ReadingRecordBytes {
     ghost whole = { WholeReading };
 
     fn size() -> usize {
-        8
+        READING
     }
 
     fn encode(self, out: &mut [u8]) {
@@ -158,7 +158,7 @@ impl Record for ReadingRecord as ReadingRecordBytes {
     }
 }
 
-impl Record for Line as LineBytes {
+pub(crate) impl Record for Line as LineBytes {
     ghost size = { lineSize };
 
     ghost encoded = { encodedLine };
@@ -168,7 +168,7 @@ impl Record for Line as LineBytes {
     ghost whole = { WholeLine };
 
     fn size() -> usize {
-        11
+        LINE
     }
 
     fn encode(self, out: &mut [u8]) {
@@ -204,7 +204,7 @@ impl Record for Line as LineBytes {
     }
 }
 
-impl Record for AllocationRow as RowBytes {
+pub(crate) impl Record for AllocationRow as RowBytes {
     ghost size = { rowSize };
 
     ghost encoded = { encodedRow };
@@ -214,7 +214,7 @@ impl Record for AllocationRow as RowBytes {
     ghost whole = { WholeRow };
 
     fn size() -> usize {
-        34
+        ROW
     }
 
     fn encode(self, out: &mut [u8]) {
@@ -230,6 +230,43 @@ impl Record for AllocationRow as RowBytes {
             method: bytes[0],
             balance: bytes[1],
             nominations,
+        }
+    }
+}
+
+// The numbers before a schedule's rows.
+#[derive(Clone, Copy)]
+pub(crate) struct Intro {
+    pub(crate) sender: u16,
+    pub(crate) day: u16,
+    pub(crate) moment: u32,
+}
+
+pub(crate) impl Record for Intro as IntroBytes {
+    ghost size = { introSize };
+
+    ghost encoded = { encodedIntro };
+
+    ghost decoded = { decodedIntro };
+
+    ghost whole = { WholeIntro };
+
+    fn size() -> usize {
+        INTRO
+    }
+
+    fn encode(self, out: &mut [u8]) {
+        let [s1, s0] = self.sender.to_be_bytes();
+        let [d1, d0] = self.day.to_be_bytes();
+        let [m3, m2, m1, m0] = self.moment.to_be_bytes();
+        out.copy_from_slice(&[s1, s0, d1, d0, m3, m2, m1, m0]);
+    }
+
+    fn decode(bytes: &[u8]) -> Intro {
+        Intro {
+            sender: u16::from_be_bytes([bytes[0], bytes[1]]),
+            day: u16::from_be_bytes([bytes[2], bytes[3]]),
+            moment: u32::from_be_bytes([bytes[4], bytes[5], bytes[6], bytes[7]]),
         }
     }
 }

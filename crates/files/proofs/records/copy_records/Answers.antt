@@ -1,11 +1,10 @@
 use mathlib.Core.Path.{_≡_, ap, sym, _∙_}
-use mathlib.Core.List.{_++_}
 use Prim.Native.Nat.{_*_}
 use native.Mathlib.Omega.{arith}
 use borrow.Author.Needs.{needs}
 use lib.ListN.{length, take, drop, length-drop}
 use Rattle.std.proofs.shelf.Lists.{take-all, length-take-le}
-use Rattle.files.proofs.Packs.{room-more, copy-turn, part-is, bytes-next, bytes-none, bytes-end}
+use Rattle.files.proofs.Packs.{room-more, copy-turn, part-is, bytes-typed, bytes-part}
 use Rattle.files.proofs.records.copy_records.Needs as need
 
 pub part-decode-end : need.part-decode-end
@@ -26,11 +25,9 @@ loop-i-again g c =
     let room = room-more i (c .args .count) s (length bs) (omega arith) (omega arith) in
     let is = part-is i (c .size-size .result) s bs (c .size-size .ensures) in
     let long : length (take s (drop (i * s) bs)) ≡ s = length-take-le s (drop (i * s) bs) (simp length-drop (omega arith)) in
-    let same = g .R·Record·met .again _ (ap length is ∙ long) (c .decode .ensures .fits) in
-    let wrote = c .encode .ensures .after ∙ ap (g .R·Record .encoded) (c .decode .ensures .value) ∙ same ∙ is in (
-      copy-turn i s bs (c .args .out .now) (c .loop-i .out) (c .encode .last .out) _ _ (length-take-le (i * s) bs (omega arith)) (ap (λ m. i * m) (c .size-size .ensures)) (omega arith) (c .loop-i .inv .0) wrote,
-      bytes-next i s bs _ (c .loop-i .inv .1) is (c .decode .ensures .fits),
-    )
+    let same = g .R·Record·met .again (take s (drop (i * s) bs)) long (bytes-part s (i * s) bs (bytes-typed bs (c .typed .bytes))) in
+    let wrote = c .encode .ensures .after ∙ ap (g .R·Record .encoded) (c .decode .ensures ∙ ap (g .R·Record .decoded) is) ∙ same in
+    copy-turn i s bs (c .args .out .now) (c .loop-i .out) (c .encode .last .out) _ _ (length-take-le (i * s) bs (omega arith)) (ap (λ m. i * m) (c .size-size .ensures)) (omega arith) (c .loop-i .inv) wrote
 
 pub returns : need.returns
 returns g c =
@@ -40,7 +37,5 @@ returns g c =
     let old = c .args .out .now in
     let end : i ≡ c .args .count = omega arith in
     let far : length bs ≡ i * s = c .pre .0 ∙ ap (λ n. n * s) (sym end) in
-    record {
-      after = c .loop-i .inv .0 ∙ ap (λ t. t ++ drop (i * s) old) (take-all (i * s) bs (omega arith)) ∙ ap (λ n. bs ++ drop n old) (sym far);
-      fits = bytes-end (i * s) bs far (c .loop-i .inv .1);
-    }
+    let all = take-all (i * s) bs (omega arith) in
+    cc

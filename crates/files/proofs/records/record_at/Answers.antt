@@ -42,4 +42,4 @@ returns g c =
     let i = c .args .index in
     let same : length bs / c .size-size .result ≡ length bs / s = ap (λ m. length bs / m) (c .size-size .ensures) in
     let below : i < length bs / s = omega arith in
-    ap Some (c .decode .ensures .value ∙ ap d (part-is i (c .size-size .result) s bs (c .size-size .ensures))) ∙ sym (nth-unpacked d s (length bs / s) i bs below)
+    ap Some (c .decode .ensures ∙ ap d (part-is i (c .size-size .result) s bs (c .size-size .ensures))) ∙ sym (nth-unpacked d s (length bs / s) i bs below)
