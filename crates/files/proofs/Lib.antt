@@ -3,3 +3,4 @@ pub mod Words
 pub mod Laws
 pub mod Buffers
 pub mod Backs
+pub mod Agains

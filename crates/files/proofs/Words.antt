@@ -17,6 +17,13 @@ listed-is zero i bs h = sym (drop-all i bs (omega arith))
 listed-is (suc n) i bs h =
     ap (λ t. getD bs i 0 ∷ t) (listed-is n (i + 1) bs (omega arith)) ∙ sym (drop-more bs i 0 (omega arith))
 
+-- the first bytes one by one, and the others behind them
+pub listed-front : (n i : ℕ) (bs : List ℕ) → i + n ≤ length bs → listed n i bs ++ drop (i + n) bs ≡ drop i bs
+listed-front zero i bs h = ap (λ m. drop m bs) (omega arith)
+listed-front (suc n) i bs h =
+    let far : drop (i + suc n) bs ≡ drop (i + 1 + n) bs = ap (λ m. drop m bs) (omega arith) in
+    ap (λ t. getD bs i 0 ∷ (listed n (i + 1) bs ++ t)) far ∙ ap (λ t. getD bs i 0 ∷ t) (listed-front n (i + 1) bs (omega arith)) ∙ sym (drop-more bs i 0 (omega arith))
+
 -- what holds of bytes that are written out holds of every list of so many
 pub by-listed : (P : List ℕ → Type 0) (n : ℕ) (bs : List ℕ) → length bs ≡ n → P (listed n 0 bs) → P bs
 by-listed P n bs h p = subst P (listed-is n 0 bs (omega arith)) p

@@ -17,6 +17,11 @@ use crate::formats::Kind;
 use crate::formats::NOTICE;
 use crate::formats::VERSION;
 use crate::formats::write_header;
+use crate::reader::File;
+use crate::reader::ReadingsFile;
+use crate::reader::ScheduleFile;
+use crate::reader::StatementFile;
+use crate::reader::read;
 use crate::records::Intro;
 use crate::records::IntroBytes;
 use crate::records::LineBytes;
@@ -24,6 +29,7 @@ use crate::records::ReadingRecord;
 use crate::records::ReadingRecordBytes;
 use crate::records::Record;
 use crate::records::RowBytes;
+use crate::records::copy_records;
 use crate::records::write_records;
 use domain::AllocationRow;
 use domain::Fault;
@@ -138,4 +144,66 @@ pub fn notice(day: u16, sender: u16, moment: u32) -> [u8; 16]
         m1,
         m0,
     ]
+}
+
+// Writes a header and, behind it, the records that the bytes stand for.
+fn copy_list<R: Record>(kind: Kind, count: u16, bytes: &[u8], out: &mut [u8])
+    requires long { ⌜ length (now bytes) ≡ count * R·Record .size ⌝ }
+    requires room { ⌜ 8 + length (now bytes) ≤ length (now out) ⌝ }
+    ensures { λ _. ⌜ now (out .exit) ≡ over (headerOf (kindNumber kind) count ++ now (bytes .entry)) (now (out .entry)) ⌝ }
+{
+    write_header(kind, count, out);
+    copy_records::<R>(bytes, count as usize, &mut out[HEADER..]);
+}
+
+// Writes the numbers before a schedule's rows and, behind them, the rows that the bytes stand for.
+fn copy_rows(intro: Intro, count: u16, bytes: &[u8], out: &mut [u8])
+    requires long { ⌜ length (now bytes) ≡ count * 34 ⌝ }
+    requires room { ⌜ 8 + length (now bytes) ≤ length (now out) ⌝ }
+    ensures { λ _. ⌜ now (out .exit) ≡ over (encodedIntro intro ++ now (bytes .entry)) (now (out .entry)) ⌝ }
+{
+    intro.encode(&mut out[0..INTRO]);
+    copy_records::<AllocationRow>(bytes, count as usize, &mut out[INTRO..]);
+}
+
+// Reads a file, and writes its records again. What is written is the file itself, byte for byte.
+pub fn rewrite(file: &[u8], out: &mut [u8]) -> Result<usize, Fault>
+    ensures result { λ r. ⌜ r ≡ rewriting (now (file .entry)) (length (now (out .entry))) ⌝ }
+    ensures after { λ r. ⌜ now (out .exit) ≡ settled r (now (file .entry)) (now (out .entry)) ⌝ }
+    ensures again { λ r. ⌜ made r (λ _. rewritten (now (file .entry)) ≡ Ok (now (file .entry))) ⌝ }
+{
+    let kept = read(file)?;
+    if file.len() > out.len() {
+        return Err(Fault::OutputTooShort { needed: file.len() });
+    }
+    match kept {
+        File::Schedule(
+            ScheduleFile {
+                count,
+                sender,
+                day,
+                moment,
+                rows,
+            },
+        ) => {
+            write_header(Kind::Schedule, count, out);
+            copy_rows(
+                Intro {
+                    sender,
+                    day,
+                    moment,
+                },
+                count,
+                rows,
+                &mut out[HEADER..],
+            );
+        }
+        File::Readings(ReadingsFile { count, readings }) => {
+            copy_list::<ReadingRecord>(Kind::Readings, count, readings, out);
+        }
+        File::Statement(StatementFile { count, lines }) => {
+            copy_list::<Line>(Kind::Statement, count, lines, out);
+        }
+    }
+    Ok(file.len())
 }
