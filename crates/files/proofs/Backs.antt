@@ -15,7 +15,7 @@ use Rattle.files.specs.Bytes.{unpacked}
 use Rattle.files.specs.Records.{encodedReading, decodedReading, WholeReading, encodedLine, decodedLine, WholeLine, rowSize, encodedRow, decodedRow, WholeRow, encodedIntro, decodedIntro, WholeIntro}
 use Rattle.files.specs.Formats.{kindNumber, kindOf, allowed, bodySize, fileSize, headerOf}
 use Rattle.files.specs.Reads.{Head, Told, andThen, seenBy, opened, fitted, answered, byKind, said, readOf}
-use Rattle.files.specs.Contents.{Content, schedule, readings, statement, fileOf, contentOf, contentRead, writing, over}
+use Rattle.files.specs.Contents.{Content, ofSchedule, ofReadings, ofStatement, fileOf, contentOf, contentRead, writing, over}
 use Rattle.files.specs.declared.formats.Kind.{Kind}
 use Rattle.files.specs.declared.formats.Kind.the-variants.{Schedule, Readings, Statement}
 use borrow.Author.Needs.{needs}
@@ -67,12 +67,12 @@ few-allowed Statement count ok = grind (arith, tells)
 pub writing-ok : (k : Kind) (count room n : ℕ) → _≡_ {A = Result ℕ Fault} (Ok n) (writing k count room) → (allowed k count ≡ true) × (n ≡ fileSize k count)
 writing-ok k count room n e = (grind (arith, tells), grind (arith, tells))
 
-pub readings-back : (rs : List ReadingRecord) → allowed Readings (length rs) ≡ true → All WholeReading rs → contentRead (fileOf (readings rs)) ≡ Ok (readings rs)
+pub readings-back : (rs : List ReadingRecord) → allowed Readings (length rs) ≡ true → All WholeReading rs → contentRead (fileOf (ofReadings rs)) ≡ Ok (ofReadings rs)
 readings-back rs ok all =
     let body = joined encodedReading rs in
     let long = length-joined encodedReading 8 WholeReading reading-long rs all in
     let same = unpacked-joined encodedReading decodedReading 8 WholeReading reading-long reading-back rs all in
-    ap (seenBy contentOf) (read-kind Readings (length rs) body (few-allowed Readings (length rs) ok) ok long) ∙ ap (λ xs. Ok (readings xs)) same
+    ap (seenBy contentOf) (read-kind Readings (length rs) body (few-allowed Readings (length rs) ok) ok long) ∙ ap (λ xs. Ok (ofReadings xs)) same
 
 pub line-long : (l : Line) → WholeLine l → length (encodedLine l) ≡ 11
 line-long l h = refl
@@ -80,12 +80,12 @@ line-long l h = refl
 pub line-back : (l : Line) → WholeLine l → decodedLine (encodedLine l) ≡ l
 line-back l h = search needs
 
-pub lines-back : (ls : List Line) → allowed Statement (length ls) ≡ true → All WholeLine ls → contentRead (fileOf (statement ls)) ≡ Ok (statement ls)
+pub lines-back : (ls : List Line) → allowed Statement (length ls) ≡ true → All WholeLine ls → contentRead (fileOf (ofStatement ls)) ≡ Ok (ofStatement ls)
 lines-back ls ok all =
     let body = joined encodedLine ls in
     let long = length-joined encodedLine 11 WholeLine line-long ls all in
     let same = unpacked-joined encodedLine decodedLine 11 WholeLine line-long line-back ls all in
-    ap (seenBy contentOf) (read-kind Statement (length ls) body (few-allowed Statement (length ls) ok) ok long) ∙ ap (λ xs. Ok (statement xs)) same
+    ap (seenBy contentOf) (read-kind Statement (length ls) body (few-allowed Statement (length ls) ok) ok long) ∙ ap (λ xs. Ok (ofStatement xs)) same
 
 pub intro-back : (i : Intro) → WholeIntro i → decodedIntro (encodedIntro i) ≡ i
 intro-back i h = search needs
@@ -95,13 +95,13 @@ length-schedule i rows all =
     let long = length-joined encodedRow rowSize WholeRow row-long rows all in
     omega arith
 
-pub schedule-back : (i : Intro) (rows : List AllocationRow) → allowed Schedule (length rows) ≡ true → WholeIntro i → All WholeRow rows → contentRead (fileOf (schedule (i .sender) (i .day) (i .moment) rows)) ≡ Ok (schedule (i .sender) (i .day) (i .moment) rows)
+pub schedule-back : (i : Intro) (rows : List AllocationRow) → allowed Schedule (length rows) ≡ true → WholeIntro i → All WholeRow rows → contentRead (fileOf (ofSchedule (i .sender) (i .day) (i .moment) rows)) ≡ Ok (ofSchedule (i .sender) (i .day) (i .moment) rows)
 schedule-back i rows ok fits all =
     let body = encodedIntro i ++ joined encodedRow rows in
     let same = unpacked-joined encodedRow decodedRow rowSize WholeRow row-long row-back rows all in
     ap (seenBy contentOf) (read-kind Schedule (length rows) body (few-allowed Schedule (length rows) ok) ok (length-schedule i rows all))
-    ∙ ap (λ j. Ok (schedule (j .sender) (j .day) (j .moment) (unpacked decodedRow rowSize (length rows) (joined encodedRow rows)))) (intro-back i fits)
-    ∙ ap (λ xs. Ok (schedule (i .sender) (i .day) (i .moment) xs)) same
+    ∙ ap (λ j. Ok (ofSchedule (j .sender) (j .day) (j .moment) (unpacked decodedRow rowSize (length rows) (joined encodedRow rows)))) (intro-back i fits)
+    ∙ ap (λ xs. Ok (ofSchedule (i .sender) (i .day) (i .moment) xs)) same
 
 -- what was written at the start of a buffer is read back
 pub read-over : (k : Kind) (count room n : ℕ) (content : Content) (old out : List ℕ) → _≡_ {A = Result ℕ Fault} (Ok n) (writing k count room) → length (fileOf content) ≡ fileSize k count → out ≡ over (fileOf content) old → contentRead (fileOf content) ≡ Ok content → contentRead (take n out) ≡ Ok content

@@ -20,22 +20,22 @@ use Rattle.files.specs.declared.records.ReadingRecord.{ReadingRecord}
 
 -- what a file holds: a schedule's sender, day, moment and rows, or readings, or lines
 pub data Content : Type 0 where
-  schedule : ℕ → ℕ → ℕ → List AllocationRow → Content
-  readings : List ReadingRecord → Content
-  statement : List Line → Content
+  ofSchedule : ℕ → ℕ → ℕ → List AllocationRow → Content
+  ofReadings : List ReadingRecord → Content
+  ofStatement : List Line → Content
 
 -- the bytes of the file that holds it
 abbrev pub fileOf : Content → List ℕ
-fileOf (schedule sender day moment rows) = headerOf 1 (length rows) ++ ((word16 sender ++ (word16 day ++ word32 moment)) ++ joined encodedRow rows)
-fileOf (readings rs) = headerOf 2 (length rs) ++ joined encodedReading rs
-fileOf (statement ls) = headerOf 3 (length ls) ++ joined encodedLine ls
+fileOf (ofSchedule sender day moment rows) = headerOf 1 (length rows) ++ ((word16 sender ++ (word16 day ++ word32 moment)) ++ joined encodedRow rows)
+fileOf (ofReadings rs) = headerOf 2 (length rs) ++ joined encodedReading rs
+fileOf (ofStatement ls) = headerOf 3 (length ls) ++ joined encodedLine ls
 
 -- what a file says, as records
 abbrev pub contentOf : Told → Content
 contentOf t =
-    cond (eqb (t .kind) 1) (schedule (getD (t .numbers) 1 0) (getD (t .numbers) 2 0) (getD (t .numbers) 3 0) (unpacked decodedRow rowSize (getD (t .numbers) 0 0) (t .records)))
-    (cond (eqb (t .kind) 2) (readings (unpacked decodedReading readingSize (getD (t .numbers) 0 0) (t .records)))
-    (statement (unpacked decodedLine lineSize (getD (t .numbers) 0 0) (t .records))))
+    cond (eqb (t .kind) 1) (ofSchedule (getD (t .numbers) 1 0) (getD (t .numbers) 2 0) (getD (t .numbers) 3 0) (unpacked decodedRow rowSize (getD (t .numbers) 0 0) (t .records)))
+    (cond (eqb (t .kind) 2) (ofReadings (unpacked decodedReading readingSize (getD (t .numbers) 0 0) (t .records)))
+    (ofStatement (unpacked decodedLine lineSize (getD (t .numbers) 0 0) (t .records))))
 
 -- what a file's bytes hold, or why they are refused
 abbrev pub contentRead : List ℕ → Result Content Fault

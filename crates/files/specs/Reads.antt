@@ -56,7 +56,7 @@ abbrev pub toldSchedule : ScheduleFile → Told
 toldSchedule f = record { kind = 1; numbers = f .count ∷ f .sender ∷ f .day ∷ f .moment ∷ []; records = now (f .rows) }
 
 abbrev pub toldReadings : ReadingsFile → Told
-toldReadings f = record { kind = 2; numbers = f .count ∷ []; records = now (f .readings) }
+toldReadings f = record { kind = 2; numbers = f .count ∷ []; records = now (f .records) }
 
 abbrev pub toldStatement : StatementFile → Told
 toldStatement f = record { kind = 3; numbers = f .count ∷ []; records = now (f .lines) }

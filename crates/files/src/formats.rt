@@ -21,6 +21,9 @@ pub(crate) const READING: usize = 8;
 
 pub(crate) const LINE: usize = 11;
 
+// The most bytes that a file can have: a statement with as many lines as it may have.
+pub const MAX_FILE: usize = HEADER + MAX_RECORDS * LINE;
+
 // The version of the format.
 pub(crate) const VERSION: u16 = 1;
 

@@ -5,6 +5,7 @@ mod reader;
 mod records;
 mod writer;
 
+pub use formats::MAX_FILE;
 pub use reader::File;
 pub use reader::ReadingsFile;
 pub use reader::ScheduleFile;

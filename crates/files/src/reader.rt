@@ -34,7 +34,7 @@ pub struct ScheduleFile<'a> {
 #[derive(Clone, Copy)]
 pub struct ReadingsFile<'a> {
     pub count: u16,
-    pub readings: &'a [u8],
+    pub records: &'a [u8],
 }
 
 // A statement: its count, and the bytes of its lines.
@@ -122,7 +122,7 @@ impl<'a> Header<'a> {
         self.judge(Kind::Readings)?;
         Ok(ReadingsFile {
             count: self.count,
-            readings: self.rest,
+            records: self.rest,
         })
     }
 
@@ -195,9 +195,9 @@ impl ScheduleFile<'_> {
 impl ReadingsFile<'_> {
     // The reading at an index, or none past the last.
     pub fn reading(&self, index: usize) -> Option<ReadingRecord>
-        ensures { λ r. ⌜ r ≡ recordIn decodedReading readingSize (now (now (self .entry) .readings)) index ⌝ }
+        ensures { λ r. ⌜ r ≡ recordIn decodedReading readingSize (now (now (self .entry) .records)) index ⌝ }
     {
-        record_at(self.readings, index)
+        record_at(self.records, index)
     }
 }
 

@@ -9,7 +9,7 @@ ghost use Rattle.std.specs.shelf.Lists.{All, joined};
 ghost use Rattle.std.specs.declared.result.Result.the-variants.{Ok};
 ghost use Rattle.files.specs.Records.{encodedIntro, WholeIntro, encodedRow, WholeRow};
 ghost use Rattle.files.specs.Formats.{kindNumber, headerOf};
-ghost use Rattle.files.specs.Contents.{schedule, readings, statement, fileOf, contentRead, rewritten, writing, rewriting, over, settled, noticeOf};
+ghost use Rattle.files.specs.Contents.{ofSchedule, ofReadings, ofStatement, fileOf, contentRead, rewritten, writing, rewriting, over, settled, noticeOf};
 ghost use Rattle.files.specs.declared.formats.Kind.the-variants as kind;
 use crate::formats::HEADER;
 use crate::formats::INTRO;
@@ -63,8 +63,8 @@ fn write_list<R: Record>(kind: Kind, records: &[R], out: &mut [u8])
 // Writes a readings file, and answers its bytes.
 pub fn write_readings(records: &[ReadingRecord], out: &mut [u8]) -> Result<usize, Fault>
     ensures result { λ r. ⌜ r ≡ writing kind.Readings (length (now (records .entry))) (length (now (out .entry))) ⌝ }
-    ensures after { λ r. ⌜ now (out .exit) ≡ settled r (fileOf (readings (now (records .entry)))) (now (out .entry)) ⌝ }
-    ensures back { λ r. ⌜ made r (λ n. contentRead (take n (now (out .exit))) ≡ Ok (readings (now (records .entry)))) ⌝ }
+    ensures after { λ r. ⌜ now (out .exit) ≡ settled r (fileOf (ofReadings (now (records .entry)))) (now (out .entry)) ⌝ }
+    ensures back { λ r. ⌜ made r (λ n. contentRead (take n (now (out .exit))) ≡ Ok (ofReadings (now (records .entry)))) ⌝ }
 {
     let written = admit(Kind::Readings, records.len(), out.len())?;
     write_list(Kind::Readings, records, out);
@@ -74,8 +74,8 @@ pub fn write_readings(records: &[ReadingRecord], out: &mut [u8]) -> Result<usize
 // Writes a statement, and answers its bytes.
 pub fn write_statement(lines: &[Line], out: &mut [u8]) -> Result<usize, Fault>
     ensures result { λ r. ⌜ r ≡ writing kind.Statement (length (now (lines .entry))) (length (now (out .entry))) ⌝ }
-    ensures after { λ r. ⌜ now (out .exit) ≡ settled r (fileOf (statement (now (lines .entry)))) (now (out .entry)) ⌝ }
-    ensures back { λ r. ⌜ made r (λ n. contentRead (take n (now (out .exit))) ≡ Ok (statement (now (lines .entry)))) ⌝ }
+    ensures after { λ r. ⌜ now (out .exit) ≡ settled r (fileOf (ofStatement (now (lines .entry)))) (now (out .entry)) ⌝ }
+    ensures back { λ r. ⌜ made r (λ n. contentRead (take n (now (out .exit))) ≡ Ok (ofStatement (now (lines .entry)))) ⌝ }
 {
     let written = admit(Kind::Statement, lines.len(), out.len())?;
     write_list(Kind::Statement, lines, out);
@@ -101,8 +101,8 @@ pub fn write_schedule(
     out: &mut [u8],
 ) -> Result<usize, Fault>
     ensures result { λ r. ⌜ r ≡ writing kind.Schedule (length (now (rows .entry))) (length (now (out .entry))) ⌝ }
-    ensures after { λ r. ⌜ now (out .exit) ≡ settled r (fileOf (schedule sender day moment (now (rows .entry)))) (now (out .entry)) ⌝ }
-    ensures back { λ r. ⌜ made r (λ n. contentRead (take n (now (out .exit))) ≡ Ok (schedule sender day moment (now (rows .entry)))) ⌝ }
+    ensures after { λ r. ⌜ now (out .exit) ≡ settled r (fileOf (ofSchedule sender day moment (now (rows .entry)))) (now (out .entry)) ⌝ }
+    ensures back { λ r. ⌜ made r (λ n. contentRead (take n (now (out .exit))) ≡ Ok (ofSchedule sender day moment (now (rows .entry)))) ⌝ }
 {
     let written = admit(Kind::Schedule, rows.len(), out.len())?;
     write_header(Kind::Schedule, rows.len() as u16, out);
@@ -198,8 +198,8 @@ pub fn rewrite(file: &[u8], out: &mut [u8]) -> Result<usize, Fault>
                 &mut out[HEADER..],
             );
         }
-        File::Readings(ReadingsFile { count, readings }) => {
-            copy_list::<ReadingRecord>(Kind::Readings, count, readings, out);
+        File::Readings(ReadingsFile { count, records }) => {
+            copy_list::<ReadingRecord>(Kind::Readings, count, records, out);
         }
         File::Statement(StatementFile { count, lines }) => {
             copy_list::<Line>(Kind::Statement, count, lines, out);

@@ -1,6 +1,6 @@
 use native.Mathlib.Omega.{arith}
 use lib.ListN.{length}
-use Rattle.files.specs.Contents.{readings}
+use Rattle.files.specs.Contents.{ofReadings}
 use Rattle.files.specs.Records.{encodedReading, WholeReading}
 use Rattle.files.specs.declared.formats.Kind.the-variants.{Readings}
 use Rattle.files.proofs.Packs.{length-joined}
@@ -19,6 +19,6 @@ returns c =
       result = ok;
       after = c .write-list .ensures .after;
       back =
-          read-over Readings (length rs) (length old) n (readings rs) old (c .write-list .last .out) ok (omega arith) (c .write-list .ensures .after)
+          read-over Readings (length rs) (length old) n (ofReadings rs) old (c .write-list .last .out) ok (omega arith) (c .write-list .ensures .after)
           (readings-back rs (writing-ok Readings (length rs) (length old) n ok .0) whole);
     }

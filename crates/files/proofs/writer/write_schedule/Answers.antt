@@ -5,7 +5,7 @@ use lib.ListN.{length}
 use Rattle.std.specs.shelf.Lists.{joined}
 use Rattle.files.specs.Records.{encodedIntro, encodedRow}
 use Rattle.files.specs.Formats.{headerOf}
-use Rattle.files.specs.Contents.{schedule}
+use Rattle.files.specs.Contents.{ofSchedule}
 use Rattle.files.specs.declared.records.Intro.{Intro}
 use Rattle.files.specs.declared.formats.Kind.the-variants.{Schedule}
 use Rattle.files.proofs.Buffers.{wrote-behind}
@@ -27,6 +27,6 @@ returns c =
       result = ok;
       after = wrote;
       back =
-          read-over Schedule (length rows) (length old) n (schedule (c .args .sender) (c .args .day) (c .args .moment) rows) old _ ok (omega arith) wrote
+          read-over Schedule (length rows) (length old) n (ofSchedule (c .args .sender) (c .args .day) (c .args .moment) rows) old _ ok (omega arith) wrote
           (schedule-back intro rows (writing-ok Schedule (length rows) (length old) n ok .0) (whole .0) (whole .1));
     }

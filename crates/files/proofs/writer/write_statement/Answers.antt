@@ -1,6 +1,6 @@
 use native.Mathlib.Omega.{arith}
 use lib.ListN.{length}
-use Rattle.files.specs.Contents.{statement}
+use Rattle.files.specs.Contents.{ofStatement}
 use Rattle.files.specs.Records.{encodedLine, WholeLine}
 use Rattle.files.specs.declared.formats.Kind.the-variants.{Statement}
 use Rattle.files.proofs.Packs.{length-joined}
@@ -19,6 +19,6 @@ returns c =
       result = ok;
       after = c .write-list .ensures .after;
       back =
-          read-over Statement (length rs) (length old) n (statement rs) old (c .write-list .last .out) ok (omega arith) (c .write-list .ensures .after)
+          read-over Statement (length rs) (length old) n (ofStatement rs) old (c .write-list .last .out) ok (omega arith) (c .write-list .ensures .after)
           (lines-back rs (writing-ok Statement (length rs) (length old) n ok .0) whole);
     }
