@@ -51,16 +51,19 @@ seenBy see (Err fault) = Err fault
 abbrev pub headSeen : Header → Head
 headSeen h = record { kind = h .kind; count = h .count; size = h .size; rest = now (h .rest) }
 
--- number and values of each case of a file read
+-- kind byte, numbers and record bytes of a schedule that was read
 abbrev pub toldSchedule : ScheduleFile → Told
 toldSchedule f = record { kind = 1; numbers = f .count ∷ f .sender ∷ f .day ∷ f .moment ∷ []; records = now (f .rows) }
 
+-- those of a readings file
 abbrev pub toldReadings : ReadingsFile → Told
 toldReadings f = record { kind = 2; numbers = f .count ∷ []; records = now (f .records) }
 
+-- those of a statement
 abbrev pub toldStatement : StatementFile → Told
 toldStatement f = record { kind = 3; numbers = f .count ∷ []; records = now (f .lines) }
 
+-- number and values of each case of a file read
 abbrev pub told : File → Told
 told (file.Schedule f) = toldSchedule f
 told (file.Readings f) = toldReadings f

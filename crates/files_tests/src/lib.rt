@@ -25,6 +25,7 @@ mod tests {
     use files::write_readings;
     use files::write_schedule;
     use files::write_statement;
+    use listing::listing;
     use std::test::*;
 
     // The refusal of a file of any kind, or none where it is accepted.
@@ -239,5 +240,55 @@ mod tests {
         let expected = *b"SSM\0\x01\x04\0\x01\0\x02\0\x65\0\0\x10\xa4";
         check_eq(notice(2, 101, 4_260), expected)?;
         check_eq(refusal(&expected), Some(Fault::AnotherKind))
+    }
+
+    #[test]
+    fn printed_refusals(rt: LibcRuntime) -> Result<(), Fail> {
+        let short = listing(rt.alloc(), b"SSM")?;
+        check_eq(
+            short.as_str(),
+            "refused 1 3: the file has fewer bytes than a header\n",
+        )?;
+        let notice = listing(rt.alloc(), &notice(2, 101, 4_260))?;
+        check_eq(
+            notice.as_str(),
+            "refused 4 5: the file is of another kind than is read here\n",
+        )?;
+        let long = vec![in rt.alloc(); 0; MAX_FILE + 1]?;
+        let text = listing(rt.alloc(), long.as_slice())?;
+        check_eq(
+            text.as_str(),
+            "more bytes than a file can have: at most 45064\n",
+        )
+    }
+
+    #[test]
+    fn printed_readings(rt: LibcRuntime) -> Result<(), Fail> {
+        let mut out = [0; 16];
+        check_eq(write_readings(&[READING], &mut out), Ok(16))?;
+        let text = listing(rt.alloc(), &out)?;
+        check_eq(
+            text.as_str(),
+            "readings: 1 records\nday period quality kwh\n61 13 2 9999999\n",
+        )
+    }
+
+    #[test]
+    fn printed_schedule(rt: LibcRuntime) -> Result<(), Fail> {
+        let mut out = [0; 1_648];
+        check_eq(
+            write_schedule(101, 2, 4_260, &[ROW; 48], &mut out),
+            Ok(1_648),
+        )?;
+        let text = listing(rt.alloc(), &out)?;
+        check(
+            text.as_str().starts_with(
+                "schedule: 48 rows, sender 101, day 2, moment 4260\nperiod method balance n0",
+            ),
+        )?;
+        check(
+            text.as_str()
+                .ends_with("\n48 7 3 1 2 3 4 5 6 7 4294967295\n"),
+        )
     }
 }
