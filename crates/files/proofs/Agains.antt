@@ -1,13 +1,13 @@
 -- An accepted file, its records written again.
 use mathlib.Core.Path.{_≡_, refl, sym, ap, subst, _∙_}
-use mathlib.Core.List.{List, [], _∷_, _++_}
-use mathlib.Core.Bool.{Bool, true, false, cond}
-use Prim.Native.Nat.{ℕ, _+_, _*_, _/_, _%_, _<_, _≤_}
+use mathlib.Core.List.{List, [], _++_}
+use mathlib.Core.Bool.{true, cond}
+use Prim.Native.Nat.{ℕ, _+_, _*_, _<_, _≤_}
 use native.Mathlib.Omega.{arith}
-use lib.ListN.{length, getD, take, drop, length-append, length-drop}
-use lib.Dec.{eqb, leb, ltb}
-use Rattle.std.specs.shelf.Lists.{All, joined}
-use Rattle.std.proofs.shelf.Lists.{drop-more, take-append-drop, length-take-le, getD-drop}
+use lib.ListN.{length, getD, take, drop, length-drop}
+use lib.Dec.{eqb, leb}
+use Rattle.std.specs.shelf.Lists.{joined}
+use Rattle.std.proofs.shelf.Lists.{take-append-drop, length-take-le, getD-drop}
 use Rattle.std.proofs.shelf.Elements.{all-take, all-drop, all-getD}
 use Rattle.std.proofs.shelf.Ways.{tells}
 use Rattle.std.specs.declared.option.Option.{Option}
@@ -18,12 +18,11 @@ use Rattle.domain.specs.declared.Fault.{Fault}
 use Rattle.domain.specs.declared.Fault.the-variants.{OutputTooShort}
 use Rattle.files.specs.Bytes.{Bytes, word16, number16, unpacked}
 use Rattle.files.specs.Records.{rowSize, readingSize, lineSize, encodedRow, decodedRow, encodedReading, decodedReading, encodedLine, decodedLine, encodedIntro, decodedIntro}
-use Rattle.files.specs.Formats.{kindNumber, kindOf, allowed, bodySize, headerOf}
+use Rattle.files.specs.Formats.{kindNumber, kindOf, bodySize, headerOf}
 use Rattle.files.specs.Reads.{Head, Told, andThen, seenBy, marked, opened, fitted, byKind, said, readOf}
 use Rattle.files.specs.Contents.{fileOf, contentOf, rewritten, rewriting}
 use Rattle.files.specs.declared.formats.Kind.{Kind}
 use Rattle.files.specs.declared.formats.Kind.the-variants.{Schedule, Readings, Statement}
-use Rattle.files.specs.declared.records.Intro.{Intro}
 use Rattle.files.proofs.Words.{word16-again, listed-front}
 use Rattle.files.proofs.Packs.{length-unpacked, joined-unpacked}
 use Rattle.files.proofs.Laws.{row-again, reading-again, line-again, intro-again}

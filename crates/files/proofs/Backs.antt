@@ -1,20 +1,19 @@
 -- What a writer wrote, read back.
 use mathlib.Core.Path.{_≡_, refl, sym, ap, _∙_}
-use mathlib.Core.List.{List, [], _∷_, _++_}
-use mathlib.Core.Bool.{Bool, true, false, cond}
-use Prim.Native.Nat.{ℕ, _+_, _*_, _/_, _%_, _<_, _≤_}
+use mathlib.Core.List.{List, _++_}
+use mathlib.Core.Bool.{true}
+use Prim.Native.Nat.{ℕ, _+_, _*_, _/_, _%_, _<_}
 use native.Mathlib.Omega.{arith}
-use lib.ListN.{length, take, drop, length-append}
-use lib.Dec.{eqb, leb, ltb}
+use lib.ListN.{length, take}
 use Rattle.std.specs.shelf.Lists.{All, joined}
 use Rattle.std.proofs.shelf.Ways.{tells}
 use Rattle.std.specs.declared.result.Result.{Result}
-use Rattle.std.specs.declared.result.Result.the-variants.{Ok, Err}
+use Rattle.std.specs.declared.result.Result.the-variants.{Ok}
 use Rattle.domain.specs.declared.Fault.{Fault}
 use Rattle.files.specs.Bytes.{unpacked}
 use Rattle.files.specs.Records.{encodedReading, decodedReading, WholeReading, encodedLine, decodedLine, WholeLine, rowSize, encodedRow, decodedRow, WholeRow, encodedIntro, decodedIntro, WholeIntro}
 use Rattle.files.specs.Formats.{kindNumber, kindOf, allowed, bodySize, fileSize, headerOf}
-use Rattle.files.specs.Reads.{Head, Told, andThen, seenBy, opened, fitted, answered, byKind, said, readOf}
+use Rattle.files.specs.Reads.{Head, Told, andThen, seenBy, opened, fitted, byKind, said, readOf}
 use Rattle.files.specs.Contents.{Content, ofSchedule, ofReadings, ofStatement, fileOf, contentOf, contentRead, writing, over}
 use Rattle.files.specs.declared.formats.Kind.{Kind}
 use Rattle.files.specs.declared.formats.Kind.the-variants.{Schedule, Readings, Statement}

@@ -1,7 +1,7 @@
 -- What a buffer holds after parts of it have been written.
-use mathlib.Core.Path.{_≡_, refl, sym, ap, _∙_}
-use mathlib.Core.List.{List, [], _∷_, _++_, append-assoc}
-use Prim.Native.Nat.{ℕ, _+_, _-_, _≤_}
+use mathlib.Core.Path.{_≡_, ap, _∙_}
+use mathlib.Core.List.{List, [], _++_, append-assoc}
+use Prim.Native.Nat.{ℕ, _+_, _-_}
 use native.Mathlib.Omega.{arith}
 use lib.ListN.{length, take, drop, length-append, length-drop}
 use borrow.Rule.Slice.PartMut.{putMid}
@@ -21,12 +21,6 @@ wrote-behind a m front j old out part long size before wrote =
     let end = append-nil part in
     let assoc = append-assoc front j (drop (length (front ++ j)) old) in
     cc
-
--- bytes at the start of a buffer, in a part of their own size
-pub wrote-front : (k : ℕ) (j old part : List ℕ) → length j ≡ k → part ≡ j → putMid 0 k old part ≡ over j old
-wrote-front k j old part long wrote =
-    let same : drop k old ≡ drop (length j) old = ap (λ n. drop n old) (sym long) in
-    ap (λ t. t ++ drop k old) wrote ∙ ap (λ t. j ++ t) same
 
 pub take-over : (n : ℕ) (bs old : List ℕ) → length bs ≡ n → take n (over bs old) ≡ bs
 take-over n bs old h = take-at bs (drop (length bs) old) n h

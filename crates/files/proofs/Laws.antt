@@ -13,10 +13,10 @@ use Rattle.std.specs.shelf.Lists.{joined}
 use Rattle.std.proofs.shelf.Lists.{drop-more, drop-all, append-nil}
 use Rattle.std.proofs.shelf.Elements.{all-drop}
 use Rattle.domain.specs.declared.AllocationRow.{AllocationRow}
-use Rattle.files.specs.Bytes.{Bytes, word16, word32, number16, number32, unpacked}
+use Rattle.files.specs.Bytes.{Bytes, word32, number32, unpacked}
 use Rattle.files.specs.Records.{encodedReading, decodedReading, encodedLine, decodedLine, Whole32, rowSize, encodedRow, decodedRow, WholeRow, encodedIntro, decodedIntro}
 use Rattle.files.proofs.Packs.{length-joined, unpacked-joined, joined-unpacked}
-use Rattle.files.proofs.Words.{listed, by-listed, word16-again, word32-again}
+use Rattle.files.proofs.Words.{by-listed, word16-again, word32-again}
 
 pub number-again : (bs : List ℕ) → length bs ≡ 4 → Bytes bs → word32 (number32 bs) ≡ bs
 number-again bs h =

@@ -1,11 +1,10 @@
 -- Records one after the other: their bytes, one more record, and a record by its place.
-use mathlib.Core.Path.{_≡_, refl, sym, ap, subst, _∙_}
+use mathlib.Core.Path.{_≡_, refl, sym, ap, _∙_}
 use mathlib.Core.List.{List, [], _∷_, _++_, append-assoc}
 use Prim.Native.Nat.{ℕ, zero, suc, _+_, _-_, _*_, _/_, _<_, _≤_}
 use native.Mathlib.Nat.{add-mul, mul-le-mul-right, zero-mul, one-mul, div-mul-le-self}
 use native.Mathlib.Omega.{arith}
-use lib.ListN.{length, getD, set, take, drop, length-append, length-take, length-drop}
-use lib.Seq.{take-append-le}
+use lib.ListN.{length, getD, set, take, drop, length-append, length-drop}
 use mir.Syntax.{w8}
 use mir.Val.{Fits}
 use borrow.Rule.Slice.PartMut.{putMid}
@@ -13,7 +12,7 @@ use Rattle.std.specs.shelf.Lists.{All, joined}
 use Rattle.std.specs.shelf.Maps.{nth}
 use Rattle.std.specs.declared.option.Option.the-variants.{Some}
 use Rattle.files.specs.Bytes.{Bytes, unpacked}
-use Rattle.std.proofs.shelf.Lists.{take-more, take-at, drop-at, drop-drop, length-take-le, take-all, joined-more, nil-from-length, take-append-drop, take-more-set, take-take, drop-take}
+use Rattle.std.proofs.shelf.Lists.{take-more, take-at, drop-at, drop-drop, length-take-le, joined-more, nil-from-length, take-append-drop, take-more-set, take-take, drop-take}
 use Rattle.std.proofs.shelf.Elements.{all-from-getD, all-take, all-drop}
 
 -- one more record ends within the room for all of them

@@ -1,11 +1,11 @@
 -- Bytes by their places, and numbers and records that are written and read again.
-use mathlib.Core.Path.{_≡_, refl, sym, ap, subst, _∙_}
+use mathlib.Core.Path.{_≡_, sym, ap, subst, _∙_}
 use mathlib.Core.List.{List, [], _∷_, _++_}
 use Prim.Native.Nat.{ℕ, zero, suc, _+_, _*_, _/_, _%_, _<_, _≤_}
 use native.Mathlib.Omega.{arith}
 use lib.ListN.{length, getD, drop}
 use Rattle.std.proofs.shelf.Lists.{drop-more, drop-all}
-use Rattle.files.specs.Bytes.{Bytes, word16, word32, number16, number32}
+use Rattle.files.specs.Bytes.{Bytes, word16, word32}
 
 -- the n bytes from the place i on, one by one
 abbrev pub listed : ℕ → ℕ → List ℕ → List ℕ

@@ -1,7 +1,7 @@
 -- What reading a file answers: which kind, which numbers and which record bytes, or which refusal.
 use mathlib.Core.List.{List, [], _∷_}
 use mathlib.Core.Bool.{Bool, cond, _&&_}
-use Prim.Native.Nat.{ℕ, _+_}
+use Prim.Native.Nat.{ℕ}
 use lib.ListN.{length, getD, take, drop}
 use lib.Dec.{eqb, ltb}
 use denote.Ref.{now}

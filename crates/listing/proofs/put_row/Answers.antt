@@ -1,5 +1,5 @@
 use mathlib.Core.Path.{ap, _∙_}
-use mathlib.Core.List.{List, [], _∷_, _++_, append-assoc}
+use mathlib.Core.List.{[], _∷_, _++_, append-assoc}
 use Rattle.std.specs.shelf.Lists.{joined}
 use Rattle.listing.specs.Texts.{spaced}
 use Rattle.listing.proofs.put_row.Needs as need

@@ -1,5 +1,4 @@
-use mathlib.Core.Path.{_≡_, refl, sym}
-use native.Mathlib.Omega.{arith}
+use mathlib.Core.Path.{refl, sym}
 use Rattle.std.specs.shelf.Lists.{joined}
 use Rattle.files.specs.Formats.{kindNumber, headerOf}
 use Rattle.files.proofs.Packs.{length-joined}

@@ -1,5 +1,3 @@
-use mathlib.Core.Path.{ap, sym}
-use borrow.Author.Needs.{needs}
 use native.Mathlib.Omega.{arith}
 use Rattle.std.proofs.shelf.Lists.{take-rest}
 use Rattle.std.proofs.shelf.Ways.{tells}

@@ -3,7 +3,7 @@ use mathlib.Core.List.{_++_}
 use Prim.Native.Nat.{_*_, _-_, _≤_}
 use native.Mathlib.Omega.{arith}
 use borrow.Author.Needs.{needs}
-use lib.ListN.{length, set, take, drop, length-set, length-take, length-drop}
+use lib.ListN.{length, set, take, drop, length-set, length-take}
 use Rattle.std.specs.shelf.Lists.{joined}
 use Rattle.files.specs.Bytes.{word32}
 use Rattle.files.proofs.Laws.{row-written}
