@@ -5,3 +5,4 @@ pub mod Answered
 pub mod Keyed
 pub mod Putting
 pub mod Changes
+pub mod Placing
