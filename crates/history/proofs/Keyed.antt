@@ -13,7 +13,7 @@ use Rattle.std.proofs.shelf.Maps.{nth-getD}
 use Rattle.history.specs.Latest.{latest}
 use Rattle.history.specs.Entries.{isOn, found, inForce, entryAt, keyed}
 use Rattle.history.specs.declared.Dated.{Dated}
-use Rattle.history.proofs.Latests.{latest-through}
+use Rattle.history.proofs.Latests.{latest-through, latest-same}
 use Rattle.history.proofs.Answered.{found-first}
 
 module _ {T : Type 0} where
@@ -35,6 +35,10 @@ module _ {T : Type 0} where
   pub in-force-entry : (t : List (Dated T)) (s d : ℕ) → entryAt t (inForce t s d) ≡ latest (keyed t s) d
   in-force-entry t s d =
       latest-through (entryAt t) (found t s) d refl (λ e i h. let on = found-first t s e i h in (on .dated .entry, ap (entryAt t) h ∙ ap (mapped (λ (x : Dated T). x .entry)) (on .stands)))
+
+  -- a table that says the same as a map has in force what the map has
+  pub in-force-agrees : (t : List (Dated T)) (m : ℕ → ℕ → Option T) (s d : ℕ) → ((e : ℕ) → e ≤ d → keyed t s e ≡ m s e) → entryAt t (inForce t s d) ≡ latest (m s) d
+  in-force-agrees t m s d agrees = in-force-entry t s d ∙ latest-same (m s) (keyed t s) d agrees
 
   -- what a read of the table gives at an index that was answered, whatever stands for a missing element
   pub entry-read : (t : List (Dated T)) (count i : ℕ) (z : Dated T) → count ≤ length t → i < length (take count t) → entryAt (take count t) (Some i) ≡ Some (getD t i z .entry)
