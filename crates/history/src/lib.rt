@@ -81,6 +81,7 @@ impl<'a, T> History<'a, T> {
     }
 }
 
+// A history's methods hand its slice on to the two searches below. Each is one pass.
 fn first_on<T>(entries: &[Dated<T>], subject: u8, day: u16) -> Option<usize>
     ensures { λ r. ⌜ r ≡ found (now (entries .entry)) subject day ⌝ }
 {
@@ -188,6 +189,7 @@ pub fn put_day<T: Copy>(
 // The most items of a day: one for each Settlement Period.
 const DAY_ITEMS: usize = PERIODS as usize;
 
+// The first items, no more than a day has.
 fn of_day<T>(items: &[T]) -> &[T]
     ensures { λ r. ⌜ now r ≡ take periods (now (items .entry)) ⌝ }
 {
