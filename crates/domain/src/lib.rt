@@ -1,7 +1,13 @@
 // What every layer speaks of: the limits of the subject, the refusals and the plain records.
 
 ghost use mathlib.Core.Path.{_≡_};
+ghost use Prim.Native.Nat.{_+_, _*_, _-_};
 ghost use Rattle.domain.specs.Refusals.{refused, numberOfTable, numberOfTerm};
+ghost use Rattle.domain.specs.Slots.{readingSlot, issuedSlot, gate, readingSlots, issuedSlots};
+
+mod terms;
+
+pub use terms::Terms;
 
 // Settlement Periods in a day, numbered from 1.
 pub const PERIODS: u8 = 48;
@@ -25,6 +31,42 @@ pub const NOMINATIONS: usize = 8;
 
 // The most records of a readings file and of a statement.
 pub const MAX_RECORDS: usize = 4_096;
+
+// The slot of a Settlement Period in the table of readings.
+pub fn reading_slot(day: u16, period: u8) -> usize
+    ensures { λ r. ⌜ r ≡ readingSlot day period ⌝ }
+{
+    usize::from(day) * usize::from(PERIODS) + usize::from(period).saturating_sub(1)
+}
+
+// The slot of a place in a Settlement Period, in the table of what was issued.
+pub fn issued_slot(places: u8, day: u16, period: u8, place: u8) -> usize
+    ensures { λ r. ⌜ r ≡ issuedSlot places day period place ⌝ }
+{
+    reading_slot(day, period) * usize::from(places) + usize::from(place)
+}
+
+// The size of the table of readings of a book of so many days.
+pub fn reading_slots(days: u16) -> usize
+    ensures { λ r. ⌜ r ≡ readingSlots days ⌝ }
+{
+    usize::from(days) * usize::from(PERIODS)
+}
+
+// The size of the table of what was issued, for a book of so many places and days.
+pub fn issued_slots(places: u8, days: u16) -> usize
+    ensures { λ r. ⌜ r ≡ issuedSlots places days ⌝ }
+{
+    reading_slots(days) * usize::from(places)
+}
+
+// The gate of a day: the last minute at which its schedule or an end of the sharing may come, one hour before the day.
+// Minutes count from midnight at the start of the day before day 0.
+pub fn gate(day: u16) -> u32
+    ensures { λ r. ⌜ r ≡ gate day ⌝ }
+{
+    u32::from(day) * 1_440 + 1_380
+}
 
 // One row of a schedule: how the energy of one Settlement Period is split.
 #[derive(Clone, Copy, PartialEq, Eq, Debug)]
