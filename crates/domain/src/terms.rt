@@ -38,8 +38,14 @@ impl Terms {
             return Err(Fault::TermOutsideLimits { term: Term::Days });
         }
         if capacity > MAX_CAPACITY {
-            return Err(Fault::TermOutsideLimits { term: Term::Capacity });
+            return Err(Fault::TermOutsideLimits {
+                term: Term::Capacity,
+            });
         }
-        Ok(Terms { places, days, capacity })
+        Ok(Terms {
+            places,
+            days,
+            capacity,
+        })
     }
 }
