@@ -1,0 +1,4 @@
+pub mod Checks
+pub mod Kept
+pub mod Readings
+pub mod Volumes
