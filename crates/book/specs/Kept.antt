@@ -3,13 +3,10 @@ use mathlib.Core.Bool.{Bool, false, cond}
 use mathlib.Core.List.{List}
 use Prim.Native.Nat.{ℕ}
 use lib.Dec.{leb}
-use lib.IntN.{pos}
 use lib.ListN.{getD, replicate}
 use Rattle.std.specs.declared.option.Option.{Option}
 use Rattle.std.specs.declared.option.Option.the-variants.{Some, None}
 use Rattle.domain.specs.Limits.{mostDays}
-use Rattle.domain.specs.declared.Reading.{Reading}
-use Rattle.domain.specs.declared.Slot.{Slot}
 use Rattle.book.specs.declared.Book.{Book}
 
 -- how many holders, rows and lines are held, from which day on the sharing has ended, and which days are closed
@@ -30,10 +27,3 @@ opened = record { holders = 0; rows = 0; lines = 0; ended = None; closed = repli
 -- the day is closed
 abbrev pub isClosed : Kept → ℕ → Bool
 isClosed k day = getD (k .closed) day false
-
--- slots that hold nothing
-abbrev pub noReading : Reading
-noReading = record { quality = 0; kwh = 0 }
-
-abbrev pub noVolume : Slot
-noVolume = record { supplier = 0; volume = pos 0 }

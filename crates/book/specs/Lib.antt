@@ -1,4 +1,3 @@
-pub mod Checks
 pub mod Kept
 pub mod Readings
 pub mod Volumes

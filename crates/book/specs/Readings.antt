@@ -3,39 +3,26 @@ use mathlib.Core.Bool.{Bool, not, _&&_}
 use mathlib.Core.List.{List}
 use Prim.Native.Nat.{ℕ}
 use lib.Dec.{leb, eqb}
-use lib.ListN.{length, getD, set, replicate}
+use lib.ListN.{set}
 use Rattle.std.specs.declared.result.Result.{Result}
-use Rattle.std.specs.declared.result.Result.the-variants.{Ok, Err}
+use Rattle.std.specs.declared.result.Result.the-variants.{Ok}
 use Rattle.domain.specs.Limits.{mostKwh}
-use Rattle.domain.specs.Slots.{readingSlot, readingSlots, issuedSlots}
+use Rattle.domain.specs.Slots.{readingSlot}
 use Rattle.domain.specs.declared.Table.the-variants.{Readings, Issued}
 use Rattle.domain.specs.declared.Fault.{Fault}
 use Rattle.domain.specs.declared.Fault.the-variants.{ArgumentOutsideLimits, AnotherSize, Spoiled, DayClosed, EstimateOverActual}
 use Rattle.domain.specs.declared.Reading.{Reading}
 use Rattle.domain.specs.declared.Slot.{Slot}
 use Rattle.domain.specs.declared.terms.Terms.{Terms}
-use Rattle.book.specs.Checks.{unless, settled, isDay, isPeriod, spoiledReading}
-use Rattle.book.specs.Kept.{Kept, isClosed, noReading, noVolume}
+use Rattle.domain.specs.Checks.{unless, isDay, isPeriod, isQuality, spoiledReading, readingsFit, issuedFit, readingAt}
+use Rattle.book.specs.Kept.{Kept, isClosed}
 
--- the tables of readings and of what was issued have the sizes that the terms give
-abbrev pub readingsFit : Terms → List Reading → Bool
-readingsFit t readings = eqb (length readings) (readingSlots (t .days))
-
-abbrev pub issuedFit : Terms → List Slot → Bool
-issuedFit t issued = eqb (length issued) (issuedSlots (t .places) (t .days))
-
+-- blanking is refused where a table has another size
 abbrev pub blankAnswer : Terms → List Reading → List Slot → Result Unit Fault
 blankAnswer t readings issued =
     unless (readingsFit t readings) (AnotherSize Readings) (unless (issuedFit t issued) (AnotherSize Issued) (Ok tt))
 
--- the reading that stands where a reading is to go
-abbrev pub readingAt : List Reading → ℕ → ℕ → Reading
-readingAt readings day period = getD readings (readingSlot day period) noReading
-
--- a quality is 1, estimated, or 2, actual
-abbrev pub isQuality : ℕ → Bool
-isQuality quality = leb 1 quality && leb quality 2
-
+-- the checks of a reading
 abbrev pub readingAnswer : Terms → Kept → List Reading → ℕ → ℕ → ℕ → ℕ → Result Unit Fault
 readingAnswer t k readings day period quality kwh =
     unless (isDay t day) (ArgumentOutsideLimits 1) (

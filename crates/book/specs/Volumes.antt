@@ -4,24 +4,16 @@ use mathlib.Core.List.{List}
 use Prim.Native.Nat.{ℕ, suc}
 use lib.Dec.{eqb}
 use lib.IntN.{ℤ, pos, negsuc}
-use lib.ListN.{getD}
 use Rattle.std.specs.declared.option.Option.{Option}
 use Rattle.std.specs.declared.option.Option.the-variants.{Some, None}
 use Rattle.std.specs.declared.result.Result.{Result}
 use Rattle.std.specs.declared.result.Result.the-variants.{Ok}
-use Rattle.domain.specs.Slots.{issuedSlot}
 use Rattle.domain.specs.declared.Table.the-variants.{Issued}
 use Rattle.domain.specs.declared.Fault.{Fault}
 use Rattle.domain.specs.declared.Fault.the-variants.{ArgumentOutsideLimits, AnotherSize, Spoiled}
 use Rattle.domain.specs.declared.Slot.{Slot}
 use Rattle.domain.specs.declared.terms.Terms.{Terms}
-use Rattle.book.specs.Checks.{unless, isDay, isPeriod, isPlace, spoiledSlot}
-use Rattle.book.specs.Kept.{noVolume}
-use Rattle.book.specs.Readings.{issuedFit}
-
--- the slot of a place in a day's period
-abbrev pub slotAt : Terms → List Slot → ℕ → ℕ → ℕ → Slot
-slotAt t issued day period place = getD issued (issuedSlot (t .places) day period place) noVolume
+use Rattle.domain.specs.Checks.{unless, isDay, isPeriod, isPlace, spoiledSlot, issuedFit, slotAt}
 
 -- kWh in the book's direction, and virtual kWh in the other
 abbrev pub directed : ℤ → ℕ × ℕ

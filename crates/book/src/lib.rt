@@ -3,21 +3,21 @@ ghost use mathlib.Core.Path.{_≡_};
 ghost use mathlib.Core.Bool.{Bool};
 ghost use Prim.Native.Nat.{ℕ, _<_, _≤_, _*_, _+_};
 ghost use lib.ListN.{length, getD, set, replicate};
-ghost use Rattle.book.specs.Checks.{settled, unless, isPeriod, spoiledReading, spoiledSlot};
-ghost use Rattle.book.specs.Kept.{kept, opened, noReading, noVolume};
+ghost use Rattle.domain.specs.Checks.{settled, noReading, noVolume};
+ghost use Rattle.book.specs.Kept.{kept, opened};
 ghost use Rattle.book.specs.Readings.{blankAnswer, readingAnswer, withReading};
 ghost use Rattle.book.specs.Volumes.{volumeAnswer, directed, issuedVolume};
-use domain::issued_slot;
-use domain::issued_slots;
-use domain::reading_slot;
-use domain::reading_slots;
 use domain::Fault;
+use domain::MAX_KWH;
 use domain::Reading;
 use domain::Slot;
 use domain::Table;
 use domain::Terms;
-use domain::MAX_KWH;
-use domain::PERIODS;
+use domain::admit;
+use domain::is_period;
+use domain::is_quality;
+use domain::issued_slot;
+use domain::reading_slot;
 use rules::Rule;
 
 // What a book keeps. The tables that its calls work on are lent to each call.
@@ -33,13 +33,6 @@ pub struct Book<R> {
     ended: Option<u16>,
     closed: [bool; 62],
 }
-
-const NO_READING: Reading = Reading { quality: 0, kwh: 0 };
-
-const NO_VOLUME: Slot = Slot {
-    supplier: 0,
-    volume: 0,
-};
 
 impl<R: Rule> Book<R> {
     // A book with no entries, lines or end, and all days open.
@@ -64,16 +57,8 @@ impl<R: Rule> Book<R> {
         ensures readings { λ r. ⌜ now (readings .exit) ≡ settled r (replicate (length (now (readings .entry))) noReading) (now (readings .entry)) ⌝ }
         ensures issued { λ r. ⌜ now (issued .exit) ≡ settled r (replicate (length (now (issued .entry))) noVolume) (now (issued .entry)) ⌝ }
     {
-        if readings.len() != reading_slots(self.terms.days) {
-            return Err(Fault::AnotherSize {
-                table: Table::Readings,
-            });
-        }
-        if issued.len() != issued_slots(self.terms.places, self.terms.days) {
-            return Err(Fault::AnotherSize {
-                table: Table::Issued,
-            });
-        }
+        self.terms.fit_readings(readings)?;
+        self.terms.fit_issued(issued)?;
         empty_readings(readings);
         empty_slots(issued);
         Ok(())
@@ -106,25 +91,13 @@ impl<R: Rule> Book<R> {
     ) -> Result<(), Fault>
         ensures { λ r. ⌜ r ≡ readingAnswer (now (self .entry) .terms) (kept (now (self .entry))) (now (readings .entry)) day period quality kwh ⌝ }
     {
-        if day >= self.terms.days {
-            return Err(Fault::ArgumentOutsideLimits { argument: 1 });
-        }
-        if !is_period(period) {
-            return Err(Fault::ArgumentOutsideLimits { argument: 2 });
-        }
-        if quality < 1 || quality > 2 {
-            return Err(Fault::ArgumentOutsideLimits { argument: 3 });
-        }
-        if kwh > MAX_KWH {
-            return Err(Fault::ArgumentOutsideLimits { argument: 4 });
-        }
-        if readings.len() != reading_slots(self.terms.days) {
-            return Err(Fault::AnotherSize {
-                table: Table::Readings,
-            });
-        }
+        admit(1, self.terms.has_day(day))?;
+        admit(2, is_period(period))?;
+        admit(3, is_quality(quality))?;
+        admit(4, kwh <= MAX_KWH)?;
+        self.terms.fit_readings(readings)?;
         let was = readings[reading_slot(day, period)];
-        if is_spoiled_reading(was) {
+        if was.is_spoiled() {
             return Err(Fault::Spoiled {
                 table: Table::Readings,
             });
@@ -148,48 +121,18 @@ impl<R: Rule> Book<R> {
     ) -> Result<Option<(u32, u32)>, Fault>
         ensures { λ r. ⌜ r ≡ volumeAnswer (now (self .entry) .terms) (now (issued .entry)) day period place ⌝ }
     {
-        if day >= self.terms.days {
-            return Err(Fault::ArgumentOutsideLimits { argument: 1 });
-        }
-        if !is_period(period) {
-            return Err(Fault::ArgumentOutsideLimits { argument: 2 });
-        }
-        if place >= self.terms.places {
-            return Err(Fault::ArgumentOutsideLimits { argument: 3 });
-        }
-        if issued.len() != issued_slots(self.terms.places, self.terms.days) {
-            return Err(Fault::AnotherSize {
-                table: Table::Issued,
-            });
-        }
+        admit(1, self.terms.has_day(day))?;
+        admit(2, is_period(period))?;
+        admit(3, self.terms.has_place(place))?;
+        self.terms.fit_issued(issued)?;
         let slot = issued[issued_slot(self.terms.places, day, period, place)];
-        if is_spoiled_slot(slot) {
+        if slot.is_spoiled() {
             return Err(Fault::Spoiled {
                 table: Table::Issued,
             });
         }
         Ok(issued_volume(slot))
     }
-}
-
-fn is_period(period: u8) -> bool
-    ensures { λ r. ⌜ r ≡ isPeriod period ⌝ }
-{
-    1 <= period && period <= PERIODS
-}
-
-fn is_spoiled_reading(reading: Reading) -> bool
-    ensures { λ r. ⌜ r ≡ spoiledReading reading ⌝ }
-{
-    reading.quality > 2 || reading.kwh > MAX_KWH
-}
-
-fn is_spoiled_slot(slot: Slot) -> bool
-    ensures { λ r. ⌜ r ≡ spoiledSlot slot ⌝ }
-{
-    slot.volume < -(MAX_KWH as i32)
-        || slot.volume > MAX_KWH as i32
-        || slot.supplier == 0 && slot.volume != 0
 }
 
 fn issued_volume(slot: Slot) -> Option<(u32, u32)>
@@ -209,11 +152,11 @@ fn issued_volume(slot: Slot) -> Option<(u32, u32)>
 fn empty_readings(readings: &mut [Reading])
     ensures { λ _. ⌜ now (readings .exit) ≡ replicate (length (now (readings .entry))) noReading ⌝ }
 {
-    readings.fill(NO_READING);
+    readings.fill(Reading::NONE);
 }
 
 fn empty_slots(issued: &mut [Slot])
     ensures { λ _. ⌜ now (issued .exit) ≡ replicate (length (now (issued .entry))) noVolume ⌝ }
 {
-    issued.fill(NO_VOLUME);
+    issued.fill(Slot::NONE);
 }

@@ -2,3 +2,4 @@ pub mod Limits
 pub mod Refusals
 pub mod Slots
 pub mod Termed
+pub mod Checks

@@ -1,16 +1,19 @@
 -- Checks that calls have in common. A call's refusal is the first of its checks that fails.
 use mathlib.Core.Bool.{Bool, true, false, cond, not, _&&_, _||_}
+use mathlib.Core.List.{List}
 use Prim.Native.Nat.{ℕ, zero, suc}
+use lib.ListN.{length, getD}
 use lib.Dec.{leb, ltb, eqb}
 use lib.IntN.{ℤ, pos, negsuc, negℤ}
 use lib.Signed.{ltZ}
 use Rattle.std.specs.declared.result.Result.{Result}
 use Rattle.std.specs.declared.result.Result.the-variants.{Ok, Err}
 use Rattle.domain.specs.Limits.{periods, mostKwh}
+use Rattle.domain.specs.Slots.{readingSlot, issuedSlot, readingSlots, issuedSlots}
 use Rattle.domain.specs.declared.Fault.{Fault}
 use Rattle.domain.specs.declared.Reading.{Reading}
 use Rattle.domain.specs.declared.Slot.{Slot}
 use Rattle.domain.specs.declared.terms.Terms.{Terms}
 
 -- what comes next where the check holds, and else this fault
 abbrev pub unless : {A : Type 0} → Bool → Fault → Result A Fault → Result A Fault
@@ -56,3 +59,30 @@ isZero (negsuc n) = false
 abbrev pub spoiledSlot : Slot → Bool
 spoiledSlot s =
     (ltZ (s .volume) (negℤ (pos mostKwh)) || ltZ (pos mostKwh) (s .volume)) || (eqb (s .supplier) 0 && not (isZero (s .volume)))
+
+-- a slot that holds no reading
+abbrev pub noReading : Reading
+noReading = record { quality = 0; kwh = 0 }
+
+-- a slot of which nothing was issued
+abbrev pub noVolume : Slot
+noVolume = record { supplier = 0; volume = pos 0 }
+
+-- a quality that a reading may have: 1, estimated, or 2, actual
+abbrev pub isQuality : ℕ → Bool
+isQuality quality = leb 1 quality && leb quality 2
+
+-- the tables of readings and of what was issued have the sizes that the terms give
+abbrev pub readingsFit : Terms → List Reading → Bool
+readingsFit t readings = eqb (length readings) (readingSlots (t .days))
+
+abbrev pub issuedFit : Terms → List Slot → Bool
+issuedFit t issued = eqb (length issued) (issuedSlots (t .places) (t .days))
+
+-- the reading of a day's period
+abbrev pub readingAt : List Reading → ℕ → ℕ → Reading
+readingAt readings day period = getD readings (readingSlot day period) noReading
+
+-- the slot of a place in a day's period
+abbrev pub slotAt : Terms → List Slot → ℕ → ℕ → ℕ → Slot
+slotAt t issued day period place = getD issued (issuedSlot (t .places) day period place) noVolume
