@@ -3,3 +3,4 @@ pub mod Refusals
 pub mod Slots
 pub mod Termed
 pub mod Checks
+pub mod Lines
