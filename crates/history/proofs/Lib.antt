@@ -1,0 +1,4 @@
+pub mod Latests
+pub mod Finding
+pub mod Sofar
+pub mod Answered

@@ -1,0 +1,4 @@
+pub mod Latest
+pub mod Entries
+pub mod Puts
+pub mod Questions
