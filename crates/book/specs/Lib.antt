@@ -1,3 +1,4 @@
 pub mod Kept
 pub mod Readings
 pub mod Volumes
+pub mod Sharing

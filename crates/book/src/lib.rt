@@ -20,6 +20,8 @@ use domain::issued_slot;
 use domain::reading_slot;
 use rules::Rule;
 
+mod sharing;
+
 // What a book keeps. The tables that its calls work on are lent to each call.
 #[derive(Drop)]
 pub struct Book<R> {

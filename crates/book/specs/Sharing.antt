@@ -1,0 +1,54 @@
+-- The calls that say who shares the meter, how, and until when.
+use mathlib.Core.Bool.{Bool, false, cond, not}
+use mathlib.Core.List.{List}
+use Prim.Native.Nat.{ℕ}
+use lib.Dec.{leb, eqb}
+use lib.ListN.{length, take}
+use Rattle.std.specs.declared.option.Option.{Option}
+use Rattle.std.specs.declared.option.Option.the-variants.{Some, None}
+use Rattle.std.specs.declared.result.Result.{Result}
+use Rattle.std.specs.declared.result.Result.the-variants.{Ok, Err}
+use Rattle.domain.specs.Slots.{gate}
+use Rattle.domain.specs.Checks.{unless, andThen, isDay, isSupplier}
+use Rattle.domain.specs.declared.Table.the-variants.{Holders}
+use Rattle.domain.specs.declared.Fault.{Fault}
+use Rattle.domain.specs.declared.Fault.the-variants.{ArgumentOutsideLimits, AfterGate, Spoiled, SenderNotPrimary, SharingEnded}
+use Rattle.domain.specs.declared.terms.Terms.{Terms}
+use Rattle.history.specs.Entries.{inForce, entryAt}
+use Rattle.history.specs.declared.Dated.{Dated}
+use Rattle.book.specs.Kept.{Kept}
+
+-- there is such a number, and it is this one
+abbrev pub isJust : ℕ → Option ℕ → Bool
+isJust n None = false
+isJust n (Some m) = eqb m n
+
+-- the supplier that holds a place on a day
+abbrev pub holderOn : List (Dated ℕ) → ℕ → ℕ → Option ℕ
+holderOn held place day = entryAt held (inForce held place day)
+
+-- who holds place 0 on a day, where the table of holders can be read: supplier 0 holds nothing
+abbrev pub primaryOn : Kept → List (Dated ℕ) → ℕ → Result (Option ℕ) Fault
+primaryOn k holders day =
+    unless (leb (k .holders) (length holders)) (Spoiled Holders) (
+    unless (not (isJust 0 (holderOn (take (k .holders) holders) 0 day))) (Spoiled Holders) (
+    Ok (holderOn (take (k .holders) holders) 0 day)))
+
+-- the sharing has not ended before
+abbrev pub notEnded : Option ℕ → Result Unit Fault
+notEnded None = Ok tt
+notEnded (Some day) = Err (SharingEnded day)
+
+-- the checks of an end
+abbrev pub endAnswer : Terms → Kept → List (Dated ℕ) → ℕ → ℕ → ℕ → Result Unit Fault
+endAnswer t k holders sender day moment =
+    unless (isSupplier sender) (ArgumentOutsideLimits 1) (
+    unless (isDay t day) (ArgumentOutsideLimits 2) (
+    unless (leb moment (gate day)) (AfterGate (gate day)) (
+    andThen (primaryOn k holders day) (λ primary.
+    unless (isJust sender primary) (SenderNotPrimary day) (
+    notEnded (k .ended))))))
+
+-- the sharing ends from that day on
+abbrev pub endedFrom : ℕ → Kept → Kept
+endedFrom day k = record { holders = k .holders; rows = k .rows; lines = k .lines; ended = Some day; closed = k .closed }

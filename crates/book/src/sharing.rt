@@ -1,0 +1,91 @@
+// Who shares the meter, how, and until when.
+ghost use mathlib.Core.Path.{_≡_};
+ghost use Prim.Native.Nat.{ℕ, _<_, _≤_};
+ghost use lib.ListN.{length, take};
+ghost use lib.Dec.{leb};
+ghost use Rattle.std.specs.declared.result.Result.the-variants.{Ok};
+ghost use Rattle.domain.specs.Checks.{settled, unless};
+ghost use Rattle.domain.specs.declared.Table.the-variants.{Holders};
+ghost use Rattle.domain.specs.declared.Fault.the-variants.{Spoiled};
+ghost use Rattle.book.specs.Kept.{kept};
+ghost use Rattle.book.specs.Sharing.{primaryOn, endAnswer, endedFrom, holderOn};
+use super::Book;
+use domain::Fault;
+use domain::Table;
+use domain::admit;
+use domain::gate;
+use history::Dated;
+use history::History;
+use rules::Rule;
+
+impl<R: Rule> Book<R> {
+    // Ends the sharing from a day on.
+    pub fn end(
+        &mut self,
+        holders: &[Dated<u16>],
+        sender: u16,
+        day: u16,
+        moment: u32,
+    ) -> Result<(), Fault>
+        ensures answer { λ r. ⌜ r ≡ endAnswer (now (self .entry) .terms) (kept (now (self .entry))) (now (holders .entry)) sender day moment ⌝ }
+        ensures keeps { λ r. ⌜ kept (now (self .exit)) ≡ settled r (endedFrom day (kept (now (self .entry)))) (kept (now (self .entry))) ⌝ }
+        ensures same { λ _. ⌜ (now (self .exit) .terms ≡ now (self .entry) .terms) × (now (self .exit) .rule ≡ now (self .entry) .rule) ⌝ }
+    {
+        self.admit_end(holders, sender, day, moment)?;
+        self.ended = Some(day);
+        Ok(())
+    }
+
+    fn admit_end(
+        &self,
+        holders: &[Dated<u16>],
+        sender: u16,
+        day: u16,
+        moment: u32,
+    ) -> Result<(), Fault>
+        ensures { λ r. ⌜ r ≡ endAnswer (now (self .entry) .terms) (kept (now (self .entry))) (now (holders .entry)) sender day moment ⌝ }
+    {
+        admit(1, sender >= 1)?;
+        admit(2, self.terms.has_day(day))?;
+        if moment > gate(day) {
+            return Err(Fault::AfterGate { gate: gate(day) });
+        }
+        let primary = self.primary_on(holders, day)?;
+        if primary != Some(sender) {
+            return Err(Fault::SenderNotPrimary { day });
+        }
+        match self.ended {
+            Some(day) => Err(Fault::SharingEnded { day }),
+            None => Ok(()),
+        }
+    }
+
+    // Who holds place 0 on a day.
+    fn primary_on(&self, holders: &[Dated<u16>], day: u16) -> Result<Option<u16>, Fault>
+        ensures { λ r. ⌜ r ≡ primaryOn (kept (now (self .entry))) (now (holders .entry)) day ⌝ }
+    {
+        let primary = holder_on(holders, self.holders, 0, day)?;
+        if primary == Some(0) {
+            return Err(Fault::Spoiled {
+                table: Table::Holders,
+            });
+        }
+        Ok(primary)
+    }
+}
+
+// Who holds a place on a day, by the entries that are held.
+fn holder_on(
+    holders: &[Dated<u16>],
+    count: usize,
+    place: u8,
+    day: u16,
+) -> Result<Option<u16>, Fault>
+    ensures { λ r. ⌜ r ≡ unless (leb count (length (now (holders .entry)))) (Spoiled Holders) (Ok (holderOn (take count (now (holders .entry))) place day)) ⌝ }
+{
+    let held = History::held(holders, count, Table::Holders)?;
+    match held.in_force(place, day) {
+        Some(index) => Ok(Some(holders[index].entry)),
+        None => Ok(None),
+    }
+}
