@@ -2,6 +2,7 @@
 use mathlib.Core.Path.{_≡_, refl, sym, ap, _∙_}
 use mathlib.Core.Bool.{Bool, true, false, cond, _&&_}
 use mathlib.Core.List.{List, [], _∷_, _++_}
+use mathlib.Core.Logic.{⊎-elim}
 use Prim.Native.Nat.{ℕ, zero, suc, _+_, _<_, _≤_}
 use native.Mathlib.Omega.{arith}
 use lib.ListN.{length, take, getD}
@@ -9,7 +10,9 @@ use Rattle.std.specs.Options.{mapped}
 use Rattle.std.specs.shelf.Maps.{nth}
 use Rattle.std.specs.declared.option.Option.{Option}
 use Rattle.std.specs.declared.option.Option.the-variants.{Some, None}
+use lib.Dec.{eqb}
 use Rattle.std.proofs.shelf.Lists.{take-more}
+use Rattle.std.proofs.shelf.Tests.{and-parts, eqb-true, cases-bool}
 use Rattle.history.specs.Latest.{orElse}
 use Rattle.history.specs.Entries.{isOn, found}
 use Rattle.history.proofs.Latests.{some-is-not-none}
@@ -33,6 +36,13 @@ mapped-none f None h = refl
 mapped-none f (Some x) h = absurd (some-is-not-none {x = f x} refl h)
 
 module _ {T : Type 0} where
+  pub is-off : (s d : ℕ) (x : Dated T) → (x .subject ≡ s → x .day ≡ d → ⊥) → isOn s d x ≡ false
+  is-off s d x apart =
+      ⊎-elim
+      (λ (h : isOn s d x ≡ true). let p = and-parts (eqb (x .subject) s) (eqb (x .day) d) h in absurd (apart (eqb-true (x .subject) s (p .0)) (eqb-true (x .day) d (p .1))))
+      (λ (h : isOn s d x ≡ false). h)
+      (cases-bool (isOn s d x))
+
   -- one entry more at the end
   pub found-push : (t : List (Dated T)) (x : Dated T) (s d : ℕ) → found (t ++ x ∷ []) s d ≡ orElse (found t s d) (cond (isOn s d x) (Some (length t)) None)
   unfolding found

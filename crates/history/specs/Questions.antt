@@ -1,7 +1,8 @@
 -- What the answers of a history say of its entries, and what a put changes of later answers.
 use mathlib.Core.Path.{_≡_}
 use mathlib.Core.List.{List}
-use Prim.Native.Nat.{ℕ, _<_, _≤_}
+use Prim.Native.Nat.{ℕ, _+_, _<_, _≤_}
+use lib.ListN.{length}
 use Rattle.std.specs.shelf.Maps.{nth}
 use Rattle.std.specs.declared.option.Option.the-variants.{Some}
 use Rattle.history.specs.Entries.{found, inForce, entryAt}
@@ -39,20 +40,28 @@ module _ {T : Type 0} where
     pub ofDay : dated .day ≡ d
     pub first : (k : ℕ) (y : Dated T) → k < i → Stands t k y → y .subject ≡ s → y .day ≡ d → ⊥
 
-  -- the same index is in force, with the same entry
+  -- the same index is in force as before, with the same entry
   pub record SameInForce (t u : List (Dated T)) (s d : ℕ) : Type 0 where
     pub index : inForce u s d ≡ inForce t s d
     pub entry : entryAt u (inForce u s d) ≡ entryAt t (inForce t s d)
 
-  -- u answers as t did, but for what the entry x changes
+  -- the entry x was put for the subject s on the day d, and so t became u
+  pub record InForceFrom (t u : List (Dated T)) (s d : ℕ) (x : T) : Type 0 where
+    -- before that day nothing changes for the subject
+    pub before : (e : ℕ) → e < d → SameInForce t u s e
+    -- from that day on x is in force, as long as there is no later entry
+    pub since : (e : ℕ) → d ≤ e → ((k : ℕ) (y : Dated T) → Stands t k y → y .subject ≡ s → d < y .day → y .day ≤ e → ⊥) → entryAt u (inForce u s e) ≡ Some x
+    -- and where there is a later entry, nothing changes
+    pub after : (e k : ℕ) (y : Dated T) → Stands t k y → y .subject ≡ s → d < y .day → y .day ≤ e → SameInForce t u s e
+
+  -- what one put changes, and what it leaves
   pub record AfterPut (t : List (Dated T)) (x : Dated T) (u : List (Dated T)) : Type 0 where
-    -- other subjects keep what is in force
-    pub others : (s d : ℕ) → (s ≡ x .subject → ⊥) → SameInForce t u s d
-    -- so does x's subject before x's day
-    pub before : (d : ℕ) → d < x .day → SameInForce t u (x .subject) d
-    -- from its day on x is in force, as long as no later entry is
-    pub since : (d : ℕ) → x .day ≤ d → ((k : ℕ) (y : Dated T) → Stands t k y → y .subject ≡ x .subject → x .day < y .day → y .day ≤ d → ⊥) → entryAt u (inForce u (x .subject) d) ≡ Some (x .entry)
-    -- and where a later entry is, it stays
-    pub after : (d k : ℕ) (y : Dated T) → Stands t k y → y .subject ≡ x .subject → x .day < y .day → y .day ≤ d → SameInForce t u (x .subject) d
-    -- what stands on another day, or for another subject, is found where it was
-    pub finds : (s d : ℕ) → (s ≡ x .subject → d ≡ x .day → ⊥) → found u s d ≡ found t s d
+    pub put : InForceFrom t u (x .subject) (x .day) (x .entry)
+    pub others : (s e : ℕ) → (s ≡ x .subject → ⊥) → SameInForce t u s e
+    pub finds : (s e : ℕ) → (s ≡ x .subject → e ≡ x .day → ⊥) → found u s e ≡ found t s e
+
+  -- what the puts of one day change and leave: the first item is the subject 1's, the next the subject 2's, and so on
+  pub record AfterDay (t : List (Dated T)) (d : ℕ) (items : List T) (u : List (Dated T)) : Type 0 where
+    pub put : (k : ℕ) (x : T) → nth items k ≡ Some x → InForceFrom t u (k + 1) d x
+    pub others : (s e : ℕ) → (1 ≤ s → s ≤ length items → ⊥) → SameInForce t u s e
+    pub finds : (s e : ℕ) → (e ≡ d → ⊥) → found u s e ≡ found t s e

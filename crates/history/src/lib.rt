@@ -1,12 +1,14 @@
 // Dated histories: what was put for a subject on a day, and what is in force on any other.
 ghost use mathlib.Core.Path.{_≡_};
-ghost use Prim.Native.Nat.{ℕ, _+_, _<_, _≤_};
+ghost use mathlib.Core.Bool.{cond};
+ghost use Prim.Native.Nat.{ℕ, _+_, _^_, _<_, _≤_};
 ghost use lib.ListN.{length, take};
-ghost use Rattle.std.specs.Options.{Cases as BySome};
+ghost use Rattle.std.specs.Options.{Cases as BySome, isSome};
 ghost use Rattle.std.specs.Results.{Cases as ByOk};
 ghost use Rattle.domain.specs.declared.Fault.the-variants.{Spoiled};
 ghost use Rattle.history.specs.Entries.{isOn, isDue, found, inForce};
-ghost use Rattle.history.specs.Questions.{InForce, NoneDue, FirstOn, NoneOn};
+ghost use Rattle.history.specs.Puts.{putOne, putAll, onDay, holding, holdingIf, roomFor};
+ghost use Rattle.history.specs.Questions.{InForce, NoneDue, FirstOn, NoneOn, AfterPut, AfterDay};
 use domain::Fault;
 use domain::Table;
 
@@ -97,4 +99,50 @@ fn latest_due<T>(entries: &[Dated<T>], subject: u8, day: u16) -> Option<usize>
         }
     }
     best
+}
+
+// Puts an entry into a table of `count` entries, over the first of its subject and day or else behind the others, and answers the new count.
+pub fn put<T: Copy>(entries: &mut [Dated<T>], count: usize, table: Table, dated: Dated<T>) -> Result<usize, Fault>
+    ensures result { λ r. ⌜ r ≡ roomFor (now (entries .entry)) table count (putOne (take count (now (entries .entry))) dated) ⌝ }
+    ensures after { λ r. ⌜ now (entries .exit) ≡ holdingIf r (putOne (take count (now (entries .entry))) dated) (now (entries .entry)) ⌝ }
+    ensures says { λ r. ⌜ ByOk r (λ n. AfterPut (take count (now (entries .entry))) dated (take n (now (entries .exit)))) (λ _. now (entries .exit) ≡ now (entries .entry)) ⌝ }
+{
+    let held = History::held(entries, count, table)?;
+    let at = held.find(dated.subject, dated.day);
+    let needed = count_after(count, at);
+    if needed > entries.len() {
+        return Err(Fault::HistoryFull { needed });
+    }
+    Ok(place(entries, count, at, dated))
+}
+
+// How many entries are held after a put that found an entry to replace, or none.
+fn count_after(count: usize, at: Option<usize>) -> usize
+    requires { ⌜ count + 1 < 2 ^ 64 ⌝ }
+    ensures { λ r. ⌜ r ≡ count + cond (isSome at) 0 1 ⌝ }
+{
+    match at {
+        Some(_) => count,
+        None => count + 1,
+    }
+}
+
+// Writes the entry over the one that was found, or behind those held, and says how many are held then.
+fn place<T: Copy>(entries: &mut [Dated<T>], count: usize, at: Option<usize>, dated: Dated<T>) -> usize
+    requires held { ⌜ count ≤ length (now entries) ⌝ }
+    requires at { ⌜ at ≡ found (take count (now entries)) (dated .subject) (dated .day) ⌝ }
+    requires room { ⌜ length (putOne (take count (now entries)) dated) ≤ length (now entries) ⌝ }
+    ensures count { λ r. ⌜ r ≡ length (putOne (take count (now (entries .entry))) dated) ⌝ }
+    ensures after { λ _. ⌜ now (entries .exit) ≡ holding (putOne (take count (now (entries .entry))) dated) (now (entries .entry)) ⌝ }
+{
+    match at {
+        Some(i) => {
+            entries[i] = dated;
+            count
+        }
+        None => {
+            entries[count] = dated;
+            count + 1
+        }
+    }
 }
