@@ -9,14 +9,37 @@ use Rattle.std.specs.declared.option.Option.the-variants.{Some, None}
 use Rattle.std.specs.declared.result.Result.{Result}
 use Rattle.std.specs.declared.result.Result.the-variants.{Ok, Err}
 use Rattle.domain.specs.Slots.{gate}
-use Rattle.domain.specs.Checks.{unless, andThen, isDay, isSupplier}
+use Rattle.domain.specs.Checks.{unless, andThen, isDay, isPlace, isSupplier}
 use Rattle.domain.specs.declared.Table.the-variants.{Holders}
 use Rattle.domain.specs.declared.Fault.{Fault}
 use Rattle.domain.specs.declared.Fault.the-variants.{ArgumentOutsideLimits, AfterGate, Spoiled, SenderNotPrimary, SharingEnded}
 use Rattle.domain.specs.declared.terms.Terms.{Terms}
 use Rattle.history.specs.Entries.{inForce, entryAt}
+use Rattle.history.specs.Puts.{putOne, roomFor}
 use Rattle.history.specs.declared.Dated.{Dated}
 use Rattle.book.specs.Kept.{Kept}
+
+-- a call that is accepted answers nothing more
+abbrev pub done : {A : Type 0} → Result A Fault → Result Unit Fault
+done (Ok x) = Ok tt
+done (Err f) = Err f
+
+-- a supplier as it is put into the table of holders
+abbrev pub holding : ℕ → ℕ → ℕ → Dated ℕ
+holding place day supplier = record { subject = place; day = day; entry = supplier }
+
+-- the checks of a register, and how many holders are held after it
+abbrev pub registerRoom : Terms → Kept → List (Dated ℕ) → ℕ → ℕ → ℕ → Result ℕ Fault
+registerRoom t k holders place day supplier =
+    unless (isPlace t place) (ArgumentOutsideLimits 1) (
+    unless (isDay t day) (ArgumentOutsideLimits 2) (
+    unless (isSupplier supplier) (ArgumentOutsideLimits 3) (
+    roomFor holders Holders (k .holders) (putOne (take (k .holders) holders) (holding place day supplier)))))
+
+-- so many holders are held, where nothing was refused
+abbrev pub withHolders : Result ℕ Fault → Kept → Kept
+withHolders (Ok n) k = record { holders = n; rows = k .rows; lines = k .lines; ended = k .ended; closed = k .closed }
+withHolders (Err f) k = k
 
 -- there is such a number, and it is this one
 abbrev pub isJust : ℕ → Option ℕ → Bool

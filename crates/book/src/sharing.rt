@@ -7,18 +7,45 @@ ghost use Rattle.std.specs.declared.result.Result.the-variants.{Ok};
 ghost use Rattle.domain.specs.Checks.{settled, unless};
 ghost use Rattle.domain.specs.declared.Table.the-variants.{Holders};
 ghost use Rattle.domain.specs.declared.Fault.the-variants.{Spoiled};
+ghost use Rattle.history.specs.Puts.{putOne, holdingIf};
 ghost use Rattle.book.specs.Kept.{kept};
-ghost use Rattle.book.specs.Sharing.{primaryOn, endAnswer, endedFrom, holderOn};
+ghost use Rattle.book.specs.Sharing.{done, holding, registerRoom, withHolders, primaryOn, endAnswer, endedFrom, holderOn};
 use super::Book;
 use domain::Fault;
 use domain::Table;
 use domain::admit;
 use domain::gate;
 use history::Dated;
+use history::put;
 use history::History;
 use rules::Rule;
 
 impl<R: Rule> Book<R> {
+    // Registers a supplier as the holder of a place from a day on.
+    pub fn register(
+        &mut self,
+        holders: &mut [Dated<u16>],
+        place: u8,
+        day: u16,
+        supplier: u16,
+    ) -> Result<(), Fault>
+        ensures answer { λ r. ⌜ r ≡ done (registerRoom (now (self .entry) .terms) (kept (now (self .entry))) (now (holders .entry)) place day supplier) ⌝ }
+        ensures holders { λ _. ⌜ now (holders .exit) ≡ holdingIf (registerRoom (now (self .entry) .terms) (kept (now (self .entry))) (now (holders .entry)) place day supplier) (putOne (take (now (self .entry) .holders) (now (holders .entry))) (holding place day supplier)) (now (holders .entry)) ⌝ }
+        ensures keeps { λ _. ⌜ kept (now (self .exit)) ≡ withHolders (registerRoom (now (self .entry) .terms) (kept (now (self .entry))) (now (holders .entry)) place day supplier) (kept (now (self .entry))) ⌝ }
+        ensures same { λ _. ⌜ (now (self .exit) .terms ≡ now (self .entry) .terms) × (now (self .exit) .rule ≡ now (self .entry) .rule) ⌝ }
+    {
+        admit(1, self.terms.has_place(place))?;
+        admit(2, self.terms.has_day(day))?;
+        admit(3, supplier >= 1)?;
+        let holding = Dated {
+            subject: place,
+            day,
+            entry: supplier,
+        };
+        self.holders = put(holders, self.holders, Table::Holders, holding)?;
+        Ok(())
+    }
+
     // Ends the sharing from a day on.
     pub fn end(
         &mut self,
