@@ -6,3 +6,4 @@ pub mod Keyed
 pub mod Putting
 pub mod Changes
 pub mod Placing
+pub mod Days

@@ -2,11 +2,12 @@
 use mathlib.Core.Bool.{cond}
 use mathlib.Core.List.{List, [], _∷_, _++_}
 use Prim.Native.Nat.{ℕ, suc}
-use lib.ListN.{length, drop}
+use lib.ListN.{length, take, drop}
 use lib.Dec.{ltb}
 use Rattle.std.specs.Iters.{folded}
 use Rattle.std.specs.declared.result.Result.{Result}
 use Rattle.std.specs.declared.result.Result.the-variants.{Ok, Err}
+use Rattle.domain.specs.Limits.{periods}
 use Rattle.domain.specs.declared.Table.{Table}
 use Rattle.domain.specs.declared.Fault.{Fault}
 use Rattle.domain.specs.declared.Fault.the-variants.{Spoiled, HistoryFull}
@@ -27,6 +28,10 @@ module _ {T : Type 0} where
   unfoldable pub onDay : ℕ → ℕ → List T → List (Dated T)
   onDay d s [] = []
   onDay d s (x ∷ xs) = record { subject = s; day = d; entry = x } ∷ onDay d (suc s) xs
+
+  -- the puts of one day: the first item is the subject 1's, and there are no more than periods in a day
+  abbrev pub putDay : List (Dated T) → ℕ → List T → List (Dated T)
+  putDay t d items = putAll t (onDay d 1 (take periods items))
 
   -- a table that holds the entries h, and behind them what it held there before
   abbrev pub holding : List (Dated T) → List (Dated T) → List (Dated T)

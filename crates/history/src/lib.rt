@@ -2,14 +2,17 @@
 ghost use mathlib.Core.Path.{_≡_};
 ghost use mathlib.Core.Bool.{cond};
 ghost use Prim.Native.Nat.{ℕ, _+_, _^_, _<_, _≤_};
-ghost use lib.ListN.{length, take};
+ghost use lib.ListN.{length, getD, take};
 ghost use Rattle.std.specs.Options.{Cases as BySome, isSome};
 ghost use Rattle.std.specs.Results.{Cases as ByOk};
+ghost use Rattle.std.specs.declared.option.Option.the-variants.{None};
+ghost use Rattle.domain.specs.Limits.{periods};
 ghost use Rattle.domain.specs.declared.Fault.the-variants.{Spoiled};
 ghost use Rattle.history.specs.Entries.{isOn, isDue, found, inForce};
-ghost use Rattle.history.specs.Puts.{putOne, putAll, onDay, holding, holdingIf, roomFor};
+ghost use Rattle.history.specs.Puts.{putOne, putAll, putDay, onDay, holding, holdingIf, roomFor};
 ghost use Rattle.history.specs.Questions.{InForce, NoneDue, FirstOn, NoneOn, AfterPut, AfterDay};
 use domain::Fault;
+use domain::PERIODS;
 use domain::Table;
 
 // What was put for a subject on a day.
@@ -145,4 +148,76 @@ fn place<T: Copy>(entries: &mut [Dated<T>], count: usize, at: Option<usize>, dat
             count + 1
         }
     }
+}
+
+// Puts the items of one day, the first for the subject 1 and so on, one after the other; no more than a day has periods.
+pub fn put_day<T: Copy>(entries: &mut [Dated<T>], count: usize, table: Table, day: u16, items: &[T]) -> Result<usize, Fault>
+    ensures result { λ r. ⌜ r ≡ roomFor (now (entries .entry)) table count (putDay (take count (now (entries .entry))) day (now (items .entry))) ⌝ }
+    ensures after { λ r. ⌜ now (entries .exit) ≡ holdingIf r (putDay (take count (now (entries .entry))) day (now (items .entry))) (now (entries .entry)) ⌝ }
+    ensures says { λ r. ⌜ ByOk r (λ n. AfterDay (take count (now (entries .entry))) day (take periods (now (items .entry))) (take n (now (entries .exit)))) (λ _. now (entries .exit) ≡ now (entries .entry)) ⌝ }
+{
+    let items = of_day(items);
+    let held = History::held(entries, count, table)?;
+    let Places { at, needed } = held.places(day, items);
+    if needed > entries.len() {
+        return Err(Fault::HistoryFull { needed });
+    }
+    Ok(place_day(entries, count, at, day, items))
+}
+
+// The most items of a day: one for each Settlement Period.
+const DAY_ITEMS: usize = PERIODS as usize;
+
+fn of_day<T>(items: &[T]) -> &[T]
+    ensures { λ r. ⌜ now r ≡ take periods (now (items .entry)) ⌝ }
+{
+    if items.len() <= DAY_ITEMS {
+        return items;
+    }
+    &items[..DAY_ITEMS]
+}
+
+// Where the entries of a day stand, the first for the subject 1, and how many entries are held once they are put.
+#[derive(Clone, Copy)]
+struct Places {
+    at: [Option<usize>; DAY_ITEMS],
+    needed: usize,
+}
+
+impl<T> History<'_, T> {
+    fn places(self, day: u16, items: &[T]) -> Places
+        requires { ⌜ length (now items) ≤ periods ⌝ }
+        ensures at { λ r. ⌜ ((k : ℕ) → k < length (now (items .entry)) → getD (r .at) k None ≡ found (now (self .entry .entries)) (k + 1) day) ⌝ }
+        ensures needed { λ r. ⌜ r .needed ≡ length (putAll (now (self .entry .entries)) (onDay day 1 (now (items .entry)))) ⌝ }
+    {
+        let mut at = [None; DAY_ITEMS];
+        let mut needed = self.entries.len();
+        for i in 0..items.len() {
+            let place = self.find(i as u8 + 1, day);
+            at[i] = place;
+            needed = count_after(needed, place);
+        }
+        Places { at, needed }
+    }
+}
+
+// Writes each item where its entry was found, or behind those held.
+fn place_day<T: Copy>(entries: &mut [Dated<T>], count: usize, at: [Option<usize>; DAY_ITEMS], day: u16, items: &[T]) -> usize
+    requires held { ⌜ count ≤ length (now entries) ⌝ }
+    requires few { ⌜ length (now items) ≤ periods ⌝ }
+    requires at { ⌜ ((k : ℕ) → k < length (now items) → getD at k None ≡ found (take count (now entries)) (k + 1) day) ⌝ }
+    requires room { ⌜ length (putAll (take count (now entries)) (onDay day 1 (now items))) ≤ length (now entries) ⌝ }
+    ensures count { λ r. ⌜ r ≡ length (putAll (take count (now (entries .entry))) (onDay day 1 (now (items .entry)))) ⌝ }
+    ensures after { λ _. ⌜ now (entries .exit) ≡ holding (putAll (take count (now (entries .entry))) (onDay day 1 (now (items .entry)))) (now (entries .entry)) ⌝ }
+{
+    let mut end = count;
+    for (i, item) in items.iter().enumerate() {
+        let dated = Dated {
+            subject: i as u8 + 1,
+            day,
+            entry: *item,
+        };
+        end = place(entries, end, at[i], dated);
+    }
+    end
 }
