@@ -1,0 +1,5 @@
+pub mod Bytes
+pub mod Records
+pub mod Formats
+pub mod Reads
+pub mod Contents
