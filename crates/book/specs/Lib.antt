@@ -2,3 +2,4 @@ pub mod Kept
 pub mod Readings
 pub mod Volumes
 pub mod Sharing
+pub mod Statements

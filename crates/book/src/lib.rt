@@ -20,7 +20,11 @@ use domain::issued_slot;
 use domain::reading_slot;
 use rules::Rule;
 
+mod notices;
 mod sharing;
+mod statements;
+
+pub use notices::Receipt;
 
 // What a book keeps. The tables that its calls work on are lent to each call.
 #[derive(Drop)]

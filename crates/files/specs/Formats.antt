@@ -49,6 +49,10 @@ bodySize Statement n = n * lineSize
 abbrev pub fileSize : Kind → ℕ → ℕ
 fileSize k n = headerSize + bodySize k n
 
+-- bytes of a statement of so many lines
+abbrev pub statementSize : ℕ → ℕ
+statementSize n = fileSize Statement n
+
 -- the header's bytes: the mark SSM, the version, the kind byte and the count
 abbrev pub headerOf : ℕ → ℕ → List ℕ
 headerOf kind count = 83 ∷ 83 ∷ 77 ∷ (word16 version ++ kind ∷ word16 count)

@@ -16,6 +16,7 @@ pub use reader::read_statement;
 pub use records::ReadingRecord;
 pub use writer::notice;
 pub use writer::rewrite;
+pub use writer::statement_bytes;
 pub use writer::write_readings;
 pub use writer::write_schedule;
 pub use writer::write_statement;

@@ -25,8 +25,8 @@ module _ {T : Type 0} where
       ⊎-elim
       (λ (h : found t s d ≡ None). h)
       (λ (h : (i : ℕ) × (found t s d ≡ Some i)).
-        let on = found-first t s d (h .0) (h .1) in
-        absurd (never (h .0) (on .dated) (on .stands) (on .ofSubject) (on .ofDay)))
+      let on = found-first t s d (h .0) (h .1) in
+      absurd (never (h .0) (on .dated) (on .stands) (on .ofSubject) (on .ofDay)))
       (option-cases (found t s d))
 
   -- and where one has, one is found
@@ -55,15 +55,15 @@ module _ {T : Type 0} where
   in-force-from t u s d x same here = record {
     before = λ e l. same-in-force t u s e (λ k m. same .finds k (λ q. omega arith)) (λ k m. same .says k (λ q. omega arith));
     since = λ e l never.
-      in-force-entry u s e ∙ latest-is (keyed u s) e d x l here (λ k m n. same .says k (λ q. omega arith) ∙ ap (entryAt t) (none-found t s k (λ i y at p q. never i y at p (omega arith) (omega arith))));
+        in-force-entry u s e ∙ latest-is (keyed u s) e d x l here (λ k m n. same .says k (λ q. omega arith) ∙ ap (entryAt t) (none-found t s k (λ i y at p q. never i y at p (omega arith) (omega arith))));
     after = λ e k y at p l m.
-      let have = some-found t k y at in
-      let f : found t s (y .day) ≡ Some (have .0) = ap (λ (z : ℕ). found t z (y .day)) (sym p) ∙ have .1 in
-      let on = found-first t s (y .day) (have .0) f in
-      record {
-        index = latest-since (found t s) (found u s) e d (y .day) (have .0) l m f (same .finds);
-        entry = through t u s e (latest-since (keyed t s) (keyed u s) e d (y .day) (on .dated .entry) l m (ap (entryAt t) f ∙ ap (mapped (λ (z : Dated T). z .entry)) (on .stands)) (same .says));
-      };
+        let have = some-found t k y at in
+        let f : found t s (y .day) ≡ Some (have .0) = ap (λ (z : ℕ). found t z (y .day)) (sym p) ∙ have .1 in
+        let on = found-first t s (y .day) (have .0) f in
+        record {
+          index = latest-since (found t s) (found u s) e d (y .day) (have .0) l m f (same .finds);
+          entry = through t u s e (latest-since (keyed t s) (keyed u s) e d (y .day) (on .dated .entry) l m (ap (entryAt t) f ∙ ap (mapped (λ (z : Dated T). z .entry)) (on .stands)) (same .says));
+        };
   }
 
   pub after-put : (t : List (Dated T)) (x : Dated T) → AfterPut t x (putOne t x)
@@ -79,11 +79,11 @@ module _ {T : Type 0} where
   pub after-day : (t : List (Dated T)) (d : ℕ) (items : List T) → AfterDay t d items (putAll t (onDay d 1 items))
   after-day t d items = record {
     put = λ k x at.
-      in-force-from t (putAll t (onDay d 1 items)) (k + 1) d x (record {
-        finds = λ e apart. found-day-other items t d 1 (k + 1) e (λ p l m. apart p);
-        says = λ e apart. keyed-day-other items t d 1 (k + 1) e (λ p l m. apart p);
-      }) (keyed-day-here items t d 1 (k + 1) k x (omega arith) at);
+        in-force-from t (putAll t (onDay d 1 items)) (k + 1) d x (record {
+          finds = λ e apart. found-day-other items t d 1 (k + 1) e (λ p l m. apart p);
+          says = λ e apart. keyed-day-other items t d 1 (k + 1) e (λ p l m. apart p);
+        }) (keyed-day-here items t d 1 (k + 1) k x (omega arith) at);
     others = λ s e apart.
-      same-in-force t (putAll t (onDay d 1 items)) s e (λ k h. found-day-other items t d 1 s k (λ p l m. apart l (omega arith))) (λ k h. keyed-day-other items t d 1 s k (λ p l m. apart l (omega arith)));
+        same-in-force t (putAll t (onDay d 1 items)) s e (λ k h. found-day-other items t d 1 s k (λ p l m. apart l (omega arith))) (λ k h. keyed-day-other items t d 1 s k (λ p l m. apart l (omega arith)));
     finds = λ s e apart. found-day-other items t d 1 s e (λ p l m. apart p);
   }

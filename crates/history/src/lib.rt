@@ -105,7 +105,12 @@ fn latest_due<T>(entries: &[Dated<T>], subject: u8, day: u16) -> Option<usize>
 }
 
 // Puts an entry into a table of `count` entries, over the first of its subject and day or else behind the others, and answers the new count.
-pub fn put<T: Copy>(entries: &mut [Dated<T>], count: usize, table: Table, dated: Dated<T>) -> Result<usize, Fault>
+pub fn put<T: Copy>(
+    entries: &mut [Dated<T>],
+    count: usize,
+    table: Table,
+    dated: Dated<T>,
+) -> Result<usize, Fault>
     ensures result { λ r. ⌜ r ≡ roomFor (now (entries .entry)) table count (putOne (take count (now (entries .entry))) dated) ⌝ }
     ensures after { λ r. ⌜ now (entries .exit) ≡ holdingIf r (putOne (take count (now (entries .entry))) dated) (now (entries .entry)) ⌝ }
     ensures says { λ r. ⌜ ByOk r (λ n. AfterPut (take count (now (entries .entry))) dated (take n (now (entries .exit)))) (λ _. now (entries .exit) ≡ now (entries .entry)) ⌝ }
@@ -131,7 +136,12 @@ fn count_after(count: usize, at: Option<usize>) -> usize
 }
 
 // Writes the entry over the one that was found, or behind those held, and says how many are held then.
-fn place<T: Copy>(entries: &mut [Dated<T>], count: usize, at: Option<usize>, dated: Dated<T>) -> usize
+fn place<T: Copy>(
+    entries: &mut [Dated<T>],
+    count: usize,
+    at: Option<usize>,
+    dated: Dated<T>,
+) -> usize
     requires held { ⌜ count ≤ length (now entries) ⌝ }
     requires at { ⌜ at ≡ found (take count (now entries)) (dated .subject) (dated .day) ⌝ }
     requires room { ⌜ length (putOne (take count (now entries)) dated) ≤ length (now entries) ⌝ }
@@ -151,7 +161,13 @@ fn place<T: Copy>(entries: &mut [Dated<T>], count: usize, at: Option<usize>, dat
 }
 
 // Puts the items of one day, the first for the subject 1 and so on, one after the other; no more than a day has periods.
-pub fn put_day<T: Copy>(entries: &mut [Dated<T>], count: usize, table: Table, day: u16, items: &[T]) -> Result<usize, Fault>
+pub fn put_day<T: Copy>(
+    entries: &mut [Dated<T>],
+    count: usize,
+    table: Table,
+    day: u16,
+    items: &[T],
+) -> Result<usize, Fault>
     ensures result { λ r. ⌜ r ≡ roomFor (now (entries .entry)) table count (putDay (take count (now (entries .entry))) day (now (items .entry))) ⌝ }
     ensures after { λ r. ⌜ now (entries .exit) ≡ holdingIf r (putDay (take count (now (entries .entry))) day (now (items .entry))) (now (entries .entry)) ⌝ }
     ensures says { λ r. ⌜ ByOk r (λ n. AfterDay (take count (now (entries .entry))) day (take periods (now (items .entry))) (take n (now (entries .exit)))) (λ _. now (entries .exit) ≡ now (entries .entry)) ⌝ }
@@ -202,7 +218,13 @@ impl<T> History<'_, T> {
 }
 
 // Writes each item where its entry was found, or behind those held.
-fn place_day<T: Copy>(entries: &mut [Dated<T>], count: usize, at: [Option<usize>; DAY_ITEMS], day: u16, items: &[T]) -> usize
+fn place_day<T: Copy>(
+    entries: &mut [Dated<T>],
+    count: usize,
+    at: [Option<usize>; DAY_ITEMS],
+    day: u16,
+    items: &[T],
+) -> usize
     requires held { ⌜ count ≤ length (now entries) ⌝ }
     requires few { ⌜ length (now items) ≤ periods ⌝ }
     requires at { ⌜ ((k : ℕ) → k < length (now items) → getD at k None ≡ found (take count (now entries)) (k + 1) day) ⌝ }
