@@ -51,22 +51,16 @@ fn are_all(readings: &[Reading], reading: Reading, issued: &[Slot], slot: Slot) 
     true
 }
 
-// A refused call leaves both tables as they were, and an accepted one empties them.
-fn each(readings: &mut [Reading], issued: &mut [Slot]) -> Result<(), Fail> {
+// A refused call leaves both tables as they were, and an accepted one empties what it is lent.
+#[test]
+fn sizes() -> Result<(), Fail> {
+    let readings: &mut [Reading] = &mut [METERED; READINGS + 1];
+    let issued: &mut [Slot] = &mut [SENT; SLOTS + 1];
     for (some, others, expected) in CASES {
         check(are_all(readings, METERED, issued, SENT))?;
         check_eq(blank(readings, issued, some, others)?, expected)?;
     }
-    check_eq(readings.len(), READINGS + 1)?;
-    check_eq(issued.len(), SLOTS + 1)?;
-    Ok(())
-}
-
-#[test]
-fn sizes() -> Result<(), Fail> {
-    let mut readings = [METERED; READINGS + 1];
-    let mut issued = [SENT; SLOTS + 1];
-    each(&mut readings, &mut issued)?;
+    check(readings.len() == READINGS + 1 && issued.len() == SLOTS + 1)?;
     check(are_all(
         &readings[0..READINGS],
         Reading::NONE,

@@ -5,9 +5,7 @@ use crate::helpers::Wrong;
 use crate::helpers::end;
 use crate::helpers::open;
 use crate::helpers::register;
-use book::Book;
 use history::Dated;
-use rules::House;
 use std::test::*;
 
 // Ends one after the other: how many holders are lent, sender, day, moment, and the refusal.
@@ -28,22 +26,17 @@ const CASES: [(usize, u16, u16, u32, Refusal); 13] = [
     (3, 102, 1, 2_820, Some((14, 1))),
 ];
 
-fn each(book: &mut Book<House>, holders: &[Dated<u16>]) -> Result<(), Fail> {
-    for (room, sender, day, moment, expected) in CASES {
-        check_eq(end(book, holders, room, sender, day, moment), expected)?;
-    }
-    Ok(())
-}
-
 #[test]
 fn limits() -> Result<(), Fail> {
     let mut book = open()?;
-    let mut holders = [NOBODY; 3];
-    check_eq(register(&mut book, &mut holders, 3, 0, 1, 101), None)?;
-    check_eq(register(&mut book, &mut holders, 3, 1, 0, 102), None)?;
-    each(&mut book, &holders)?;
+    let holders: &mut [Dated<u16>] = &mut [NOBODY; 3];
+    check_eq(register(&mut book, holders, 3, 0, 1, 101), None)?;
+    check_eq(register(&mut book, holders, 3, 1, 0, 102), None)?;
+    for (room, sender, day, moment, expected) in CASES {
+        check_eq(end(&mut book, holders, room, sender, day, moment), expected)?;
+    }
     // a holder may be registered after the end, and for a day after it
-    check_eq(register(&mut book, &mut holders, 3, 1, 2, 103), None)
+    check_eq(register(&mut book, holders, 3, 1, 2, 103), None)
 }
 
 #[test]

@@ -49,34 +49,38 @@ const CASES: [(usize, Metered, Refusal); 24] = [
     (READINGS, (2, 47, 1, 36), None),
 ];
 
-fn each(readings: &mut [Reading]) -> Result<(), Fail> {
+#[test]
+fn limits() -> Result<(), Fail> {
     let book = open()?;
+    let readings: &mut [Reading] = &mut [Reading::NONE; READINGS + 1];
     for (room, metered, expected) in CASES {
         check_eq(read(&book, readings, room, metered), expected)?;
     }
-    Ok(())
+    check(holds(readings, 2, Reading { quality: 1, kwh: 0 }))?;
+    check(holds(
+        readings,
+        48,
+        Reading {
+            quality: 2,
+            kwh: 33,
+        },
+    ))?;
+    check(holds(
+        readings,
+        143,
+        Reading {
+            quality: 2,
+            kwh: 35,
+        },
+    ))?;
+    check(holds(readings, 4, Reading::NONE) && holds(readings, 144, Reading::NONE))
 }
 
-#[test]
-fn limits() -> Result<(), Fail> {
-    let mut readings = [Reading::NONE; READINGS + 1];
-    each(&mut readings)?;
-    check(readings[2] == Reading { quality: 1, kwh: 0 })?;
-    check(
-        readings[48]
-            == Reading {
-                quality: 2,
-                kwh: 33,
-            },
-    )?;
-    check(
-        readings[143]
-            == Reading {
-                quality: 2,
-                kwh: 35,
-            },
-    )?;
-    check(readings[4] == Reading::NONE && readings[144] == Reading::NONE)
+fn holds(readings: &[Reading], slot: usize, reading: Reading) -> bool {
+    match readings.get(slot) {
+        Some(held) => *held == reading,
+        None => false,
+    }
 }
 
 // What a slot holds, the quality of a new reading, and the refusal.

@@ -5,9 +5,7 @@ use crate::helpers::Wrong;
 use crate::helpers::open;
 use crate::helpers::register;
 use crate::helpers::same;
-use book::Book;
 use history::Dated;
-use rules::House;
 use std::test::*;
 
 // Registers one after the other: room in the table, place, day, supplier, and the refusal.
@@ -32,21 +30,16 @@ const CASES: [(usize, u8, u16, u16, Refusal); 16] = [
     (4, 0, 1, 101, None),
 ];
 
-fn each(book: &mut Book<House>, holders: &mut [Dated<u16>]) -> Result<(), Fail> {
-    for (room, place, day, supplier, expected) in CASES {
-        check_eq(
-            register(book, holders, room, place, day, supplier),
-            expected,
-        )?;
-    }
-    Ok(())
-}
-
 #[test]
 fn limits() -> Result<(), Fail> {
     let mut book = open()?;
-    let mut holders = [NOBODY; 5];
-    each(&mut book, &mut holders)?;
+    let holders: &mut [Dated<u16>] = &mut [NOBODY; 5];
+    for (room, place, day, supplier, expected) in CASES {
+        check_eq(
+            register(&mut book, holders, room, place, day, supplier),
+            expected,
+        )?;
+    }
     let held = [
         put(1, 0, 102),
         put(1, 2, 102),
@@ -54,7 +47,7 @@ fn limits() -> Result<(), Fail> {
         put(0, 1, 101),
         NOBODY,
     ];
-    check(same(&holders, &held))
+    check(same(holders, &held))
 }
 
 fn put(place: u8, day: u16, supplier: u16) -> Dated<u16> {

@@ -49,11 +49,13 @@ const CASES: [(u16, u16, u32, usize, Refusal); 19] = [
     (101, 2, 4_261, 48, Some((10, 4_260))),
 ];
 
-fn each(
-    book: &mut Book<House>,
-    holders: &[Dated<u16>],
-    rows: &mut [Dated<AllocationRow>],
-) -> Result<(), Fail> {
+#[test]
+fn limits() -> Result<(), Fail> {
+    let mut book = open()?;
+    let holders: &mut [Dated<u16>] = &mut [NOBODY; 2];
+    let rows: &mut [Dated<AllocationRow>] = &mut [NO_ROW; 96];
+    check_eq(register(&mut book, holders, 2, 0, 1, 101), None)?;
+    check_eq(register(&mut book, holders, 2, 1, 0, 102), None)?;
     for (sender, day, moment, count, expected) in CASES {
         let sent = Sending {
             sender,
@@ -63,25 +65,20 @@ fn each(
             room: 96,
         };
         check_eq(
-            schedule(book, holders, rows, sent, &[SEVENTY; 49]),
+            schedule(&mut book, holders, rows, sent, &[SEVENTY; 49]),
             expected,
         )?;
     }
-    Ok(())
+    check(holds(rows, 0, 1, 2) && holds(rows, 47, 48, 2))?;
+    check(holds(rows, 48, 1, 1) && holds(rows, 95, 48, 1))
 }
 
-#[test]
-fn limits() -> Result<(), Fail> {
-    let mut book = open()?;
-    let mut holders = [NOBODY; 2];
-    let mut rows = [NO_ROW; 96];
-    check_eq(register(&mut book, &mut holders, 2, 0, 1, 101), None)?;
-    check_eq(register(&mut book, &mut holders, 2, 1, 0, 102), None)?;
-    each(&mut book, &holders, &mut rows)?;
-    check_eq((rows[0].subject, rows[0].day), (1, 2))?;
-    check_eq((rows[47].subject, rows[47].day), (48, 2))?;
-    check_eq((rows[48].subject, rows[48].day), (1, 1))?;
-    check(rows[95].subject == 48 && rows[95].day == 1 && rows[95].entry == SEVENTY)
+// Whether the row of a period, put for a day, stands at an index.
+fn holds(rows: &[Dated<AllocationRow>], at: usize, period: u8, day: u16) -> bool {
+    match rows.get(at) {
+        Some(dated) => dated.subject == period && dated.day == day && dated.entry == SEVENTY,
+        None => false,
+    }
 }
 
 // Which row is exchanged for which, and the refusal.
@@ -179,11 +176,12 @@ const ROOMS: [(usize, u16, Refusal); 11] = [
     (97, 0, None),
 ];
 
-fn each_room(
-    book: &mut Book<House>,
-    holders: &[Dated<u16>],
-    rows: &mut [Dated<AllocationRow>],
-) -> Result<(), Fail> {
+#[test]
+fn rooms() -> Result<(), Fail> {
+    let mut book = open()?;
+    let holders: &mut [Dated<u16>] = &mut [NOBODY; 1];
+    let rows: &mut [Dated<AllocationRow>] = &mut [NO_ROW; 97];
+    check_eq(register(&mut book, holders, 1, 0, 0, 101), None)?;
     for (room, day, expected) in ROOMS {
         let sent = Sending {
             day,
@@ -192,21 +190,11 @@ fn each_room(
             ..IN_TIME
         };
         check_eq(
-            schedule(book, holders, rows, sent, &[SEVENTY; 48]),
+            schedule(&mut book, holders, rows, sent, &[SEVENTY; 48]),
             expected,
         )?;
     }
-    Ok(())
-}
-
-#[test]
-fn rooms() -> Result<(), Fail> {
-    let mut book = open()?;
-    let mut holders = [NOBODY; 1];
-    let mut rows = [NO_ROW; 97];
-    check_eq(register(&mut book, &mut holders, 1, 0, 0, 101), None)?;
-    each_room(&mut book, &holders, &mut rows)?;
-    check(same(&rows[96..], &[NO_ROW]))
+    check(holds(rows, 0, 1, 0) && holds(rows, 95, 48, 1) && !holds(rows, 96, 1, 0))
 }
 
 // A day, a sender, and the refusal: 101 holds place 0 from day 0, 103 from day 1, and the sharing ends on day 2.
@@ -220,11 +208,14 @@ const HELD: [(u16, u16, Refusal); 7] = [
     (1, 103, None),
 ];
 
-fn each_holder(
-    book: &mut Book<House>,
-    holders: &[Dated<u16>],
-    rows: &mut [Dated<AllocationRow>],
-) -> Result<(), Fail> {
+#[test]
+fn holders_and_the_end() -> Result<(), Fail> {
+    let mut book = open()?;
+    let holders: &mut [Dated<u16>] = &mut [NOBODY; 3];
+    let rows: &mut [Dated<AllocationRow>] = &mut [NO_ROW; 96];
+    check_eq(register(&mut book, holders, 3, 0, 0, 101), None)?;
+    check_eq(register(&mut book, holders, 3, 0, 1, 103), None)?;
+    check_eq(end(&mut book, holders, 3, 103, 2, 4_260), None)?;
     for (day, sender, expected) in HELD {
         let sent = Sending {
             sender,
@@ -233,22 +224,11 @@ fn each_holder(
             ..IN_TIME
         };
         check_eq(
-            schedule(book, holders, rows, sent, &[SEVENTY; 48]),
+            schedule(&mut book, holders, rows, sent, &[SEVENTY; 48]),
             expected,
         )?;
     }
     Ok(())
-}
-
-#[test]
-fn holders_and_the_end() -> Result<(), Fail> {
-    let mut book = open()?;
-    let mut holders = [NOBODY; 3];
-    let mut rows = [NO_ROW; 96];
-    check_eq(register(&mut book, &mut holders, 3, 0, 0, 101), None)?;
-    check_eq(register(&mut book, &mut holders, 3, 0, 1, 103), None)?;
-    check_eq(end(&mut book, &holders, 3, 103, 2, 4_260), None)?;
-    each_holder(&mut book, &holders, &mut rows)
 }
 
 // Of what can be wrong, the refusal, in the order in which it is answered.

@@ -38,17 +38,14 @@ const CASES: [(usize, u16, u8, u8, Refusal); 11] = [
     (0, 0, 1, 0, Some((11, 4))),
 ];
 
-fn each(issued: &[Slot]) -> Result<(), Fail> {
+#[test]
+fn limits() -> Result<(), Fail> {
     let book = open()?;
+    let issued: &[Slot] = &[SENT; SLOTS + 1];
     for (room, day, period, place, expected) in CASES {
         check_eq(ask(&book, issued, room, day, period, place), expected)?;
     }
     Ok(())
-}
-
-#[test]
-fn limits() -> Result<(), Fail> {
-    each(&[SENT; SLOTS + 1])
 }
 
 // What a slot holds, and what is answered: a pair or none, or a refusal.

@@ -104,18 +104,42 @@ fn run(rt: &LibcRuntime, terms: Terms) -> io::Result<()> {
     let mut readings = [Reading::NONE; 144];
     let mut issued = [Slot::NONE; 288];
     say(rt, "blank", book.blank(&mut readings, &mut issued))?;
-    say(rt, "register place 0 day 0 supplier 101", book.register(&mut holders, 0, 0, 101))?;
-    say(rt, "register place 1 day 0 supplier 102", book.register(&mut holders, 1, 0, 102))?;
+    say(
+        rt,
+        "register place 0 day 0 supplier 101",
+        book.register(&mut holders, 0, 0, 101),
+    )?;
+    say(
+        rt,
+        "register place 1 day 0 supplier 102",
+        book.register(&mut holders, 1, 0, 102),
+    )?;
     let in_time = schedule_day(&mut book, &holders, &mut rows, 101, 2, 4_260);
     say_notice(rt, "schedule by 101 day 2 minute 4260", in_time)?;
     let late = schedule_day(&mut book, &holders, &mut rows, 101, 2, 4_261);
     say_notice(rt, "schedule by 101 day 2 minute 4261", late)?;
     let other = schedule_day(&mut book, &holders, &mut rows, 102, 2, 4_260);
     say_notice(rt, "schedule by 102 day 2 minute 4260", other)?;
-    say(rt, "reading day 2 period 13 actual 30", book.reading(&mut readings, 2, 13, 2, 30))?;
-    say(rt, "reading day 2 period 13 estimated 31", book.reading(&mut readings, 2, 13, 1, 31))?;
-    say_volume(rt, "volume day 2 period 13 place 0", book.volume(&issued, 2, 13, 0))?;
-    say(rt, "end by 101 day 2 minute 4260", book.end(&holders, 101, 2, 4_260))?;
+    say(
+        rt,
+        "reading day 2 period 13 actual 30",
+        book.reading(&mut readings, 2, 13, 2, 30),
+    )?;
+    say(
+        rt,
+        "reading day 2 period 13 estimated 31",
+        book.reading(&mut readings, 2, 13, 1, 31),
+    )?;
+    say_volume(
+        rt,
+        "volume day 2 period 13 place 0",
+        book.volume(&issued, 2, 13, 0),
+    )?;
+    say(
+        rt,
+        "end by 101 day 2 minute 4260",
+        book.end(&holders, 101, 2, 4_260),
+    )?;
     let ended = schedule_day(&mut book, &holders, &mut rows, 101, 2, 4_260);
     say_notice(rt, "schedule by 101 day 2 minute 4260", ended)
 }
