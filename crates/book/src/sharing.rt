@@ -3,10 +3,12 @@ ghost use mathlib.Core.Path.{_≡_};
 ghost use Prim.Native.Nat.{ℕ, _<_, _≤_};
 ghost use lib.ListN.{length, take};
 ghost use lib.Dec.{leb};
+ghost use Rattle.std.specs.Results.{Cases as ByOk};
 ghost use Rattle.std.specs.declared.result.Result.the-variants.{Ok};
 ghost use Rattle.domain.specs.Checks.{settled, unless};
 ghost use Rattle.domain.specs.declared.Table.the-variants.{Holders};
 ghost use Rattle.domain.specs.declared.Fault.the-variants.{Spoiled};
+ghost use Rattle.history.specs.Questions.{AfterPut, AfterDay};
 ghost use Rattle.history.specs.Puts.{putOne, putDay, holdingIf};
 ghost use Rattle.book.specs.Kept.{kept};
 ghost use Rattle.book.specs.Sharing.{done, holding, registerRoom, withHolders, primaryOn, endAnswer, endedFrom, holderOn, rowsAllowed, scheduleAdmit, scheduleRoom, beforeEnd, withRows, receiptFor};
@@ -39,6 +41,7 @@ impl<R: Rule> Book<R> {
         ensures holders { λ _. ⌜ now (holders .exit) ≡ holdingIf (registerRoom (now (self .entry) .terms) (kept (now (self .entry))) (now (holders .entry)) place day supplier) (putOne (take (now (self .entry) .holders) (now (holders .entry))) (holding place day supplier)) (now (holders .entry)) ⌝ }
         ensures keeps { λ _. ⌜ kept (now (self .exit)) ≡ withHolders (registerRoom (now (self .entry) .terms) (kept (now (self .entry))) (now (holders .entry)) place day supplier) (kept (now (self .entry))) ⌝ }
         ensures same { λ _. ⌜ (now (self .exit) .terms ≡ now (self .entry) .terms) × (now (self .exit) .rule ≡ now (self .entry) .rule) ⌝ }
+        ensures says { λ r. ⌜ ByOk r (λ _. AfterPut (take (now (self .entry) .holders) (now (holders .entry))) (holding place day supplier) (take (now (self .exit) .holders) (now (holders .exit)))) (λ _. now (holders .exit) ≡ now (holders .entry)) ⌝ }
     {
         admit(1, self.terms.has_place(place))?;
         admit(2, self.terms.has_day(day))?;
@@ -107,6 +110,7 @@ impl<R: Rule> Book<R> {
         ensures rows { λ _. ⌜ now (rows .exit) ≡ holdingIf (scheduleRoom (R·Rule .meaning (now (self .entry) .rule)) (now (self .entry) .terms) (kept (now (self .entry))) (now (holders .entry)) (now (rows .entry)) sender day moment (now (schedule .entry))) (putDay (take (now (self .entry) .rows) (now (rows .entry))) day (now (schedule .entry))) (now (rows .entry)) ⌝ }
         ensures keeps { λ _. ⌜ kept (now (self .exit)) ≡ withRows (scheduleRoom (R·Rule .meaning (now (self .entry) .rule)) (now (self .entry) .terms) (kept (now (self .entry))) (now (holders .entry)) (now (rows .entry)) sender day moment (now (schedule .entry))) (kept (now (self .entry))) ⌝ }
         ensures same { λ _. ⌜ (now (self .exit) .terms ≡ now (self .entry) .terms) × (now (self .exit) .rule ≡ now (self .entry) .rule) ⌝ }
+        ensures says { λ r. ⌜ ByOk r (λ _. AfterDay (take (now (self .entry) .rows) (now (rows .entry))) day (take periods (now (schedule .entry))) (take (now (self .exit) .rows) (now (rows .exit)))) (λ _. now (rows .exit) ≡ now (rows .entry)) ⌝ }
     {
         self.admit_schedule(holders, rows, sender, day, moment, schedule)?;
         self.rows = put_day(rows, self.rows, Table::Rows, day, schedule)?;
