@@ -1,7 +1,17 @@
 // What every layer speaks of: the limits of the subject, the refusals and the plain records.
 
 ghost use mathlib.Core.Path.{_≡_};
+ghost use Prim.Native.Nat.{_+_, _*_, _-_};
 ghost use Rattle.domain.specs.Refusals.{refused, numberOfTable, numberOfTerm};
+ghost use Rattle.std.specs.declared.result.Result.the-variants.{Ok, Err};
+ghost use Rattle.domain.specs.declared.Table.the-variants.{Readings, Issued};
+ghost use Rattle.domain.specs.declared.Fault.the-variants.{ArgumentOutsideLimits, AnotherSize};
+ghost use Rattle.domain.specs.Checks.{unless, isDay, isPlace, isPeriod, isQuality, spoiledReading, spoiledSlot, noReading, noVolume, readingsFit, issuedFit};
+ghost use Rattle.domain.specs.Slots.{readingSlot, issuedSlot, gate, readingSlots, issuedSlots};
+
+mod terms;
+
+pub use terms::Terms;
 
 // Settlement Periods in a day, numbered from 1.
 pub const PERIODS: u8 = 48;
@@ -26,6 +36,42 @@ pub const NOMINATIONS: usize = 8;
 // The most records of a readings file and of a statement.
 pub const MAX_RECORDS: usize = 4_096;
 
+// The slot of a Settlement Period in the table of readings.
+pub fn reading_slot(day: u16, period: u8) -> usize
+    ensures { λ r. ⌜ r ≡ readingSlot day period ⌝ }
+{
+    usize::from(day) * usize::from(PERIODS) + usize::from(period).saturating_sub(1)
+}
+
+// The slot of a place in a Settlement Period, in the table of what was issued.
+pub fn issued_slot(places: u8, day: u16, period: u8, place: u8) -> usize
+    ensures { λ r. ⌜ r ≡ issuedSlot places day period place ⌝ }
+{
+    reading_slot(day, period) * usize::from(places) + usize::from(place)
+}
+
+// The size of the table of readings of a book of so many days.
+pub fn reading_slots(days: u16) -> usize
+    ensures { λ r. ⌜ r ≡ readingSlots days ⌝ }
+{
+    usize::from(days) * usize::from(PERIODS)
+}
+
+// The size of the table of what was issued, for a book of so many places and days.
+pub fn issued_slots(places: u8, days: u16) -> usize
+    ensures { λ r. ⌜ r ≡ issuedSlots places days ⌝ }
+{
+    reading_slots(days) * usize::from(places)
+}
+
+// The gate of a day: the last minute at which its schedule or an end of the sharing may come, one hour before the day.
+// Minutes count from midnight at the start of the day before day 0.
+pub fn gate(day: u16) -> u32
+    ensures { λ r. ⌜ r ≡ gate day ⌝ }
+{
+    u32::from(day) * 1_440 + 1_380
+}
+
 // One row of a schedule: how the energy of one Settlement Period is split.
 #[derive(Clone, Copy, PartialEq, Eq, Debug)]
 pub struct AllocationRow {
@@ -41,11 +87,40 @@ pub struct Reading {
     pub kwh: u32,
 }
 
+impl Reading {
+    // An empty slot.
+    pub const NONE: Reading = Reading { quality: 0, kwh: 0 };
+
+    // Whether a slot holds what can be neither a reading nor empty.
+    pub fn is_spoiled(self) -> bool
+        ensures { λ r. ⌜ r ≡ spoiledReading self ⌝ }
+    {
+        self.quality > 2 || self.kwh > MAX_KWH
+    }
+}
+
 // What was last issued for one place in one Settlement Period; supplier 0 in an empty slot.
 #[derive(Clone, Copy, PartialEq, Eq, Debug)]
 pub struct Slot {
     pub supplier: u16,
     pub volume: i32,
+}
+
+impl Slot {
+    // A slot of which nothing was issued.
+    pub const NONE: Slot = Slot {
+        supplier: 0,
+        volume: 0,
+    };
+
+    // Whether a slot holds a volume that no meter counts, or one that was issued to nobody.
+    pub fn is_spoiled(self) -> bool
+        ensures { λ r. ⌜ r ≡ spoiledSlot self ⌝ }
+    {
+        self.volume < -(MAX_KWH as i32)
+            || self.volume > MAX_KWH as i32
+            || self.supplier == 0 && self.volume != 0
+    }
 }
 
 // One line of the journal: a volume that was sent to a supplier.
@@ -57,6 +132,73 @@ pub struct Line {
     pub supplier: u16,
     pub run: u8,
     pub volume: i32,
+}
+
+impl Terms {
+    // Whether the book has this day.
+    pub fn has_day(self, day: u16) -> bool
+        ensures { λ r. ⌜ r ≡ isDay self day ⌝ }
+    {
+        day < self.days
+    }
+
+    // Whether the book has this place.
+    pub fn has_place(self, place: u8) -> bool
+        ensures { λ r. ⌜ r ≡ isPlace self place ⌝ }
+    {
+        place < self.places
+    }
+
+    // Refuses a table of readings of another size than the terms give.
+    pub fn fit_readings(self, readings: &[Reading]) -> Result<(), Fault>
+        ensures { λ r. ⌜ r ≡ unless (readingsFit self (now (readings .entry))) (AnotherSize Readings) (Ok tt) ⌝ }
+    {
+        if readings.len() == reading_slots(self.days) {
+            Ok(())
+        } else {
+            Err(Fault::AnotherSize {
+                table: Table::Readings,
+            })
+        }
+    }
+
+    // Refuses a table of what was issued of another size than the terms give.
+    pub fn fit_issued(self, issued: &[Slot]) -> Result<(), Fault>
+        ensures { λ r. ⌜ r ≡ unless (issuedFit self (now (issued .entry))) (AnotherSize Issued) (Ok tt) ⌝ }
+    {
+        if issued.len() == issued_slots(self.places, self.days) {
+            Ok(())
+        } else {
+            Err(Fault::AnotherSize {
+                table: Table::Issued,
+            })
+        }
+    }
+}
+
+// Whether this is a Settlement Period of a day.
+pub fn is_period(period: u8) -> bool
+    ensures { λ r. ⌜ r ≡ isPeriod period ⌝ }
+{
+    1 <= period && period <= PERIODS
+}
+
+// Whether a reading may have this quality: 1, estimated, or 2, actual.
+pub fn is_quality(quality: u8) -> bool
+    ensures { λ r. ⌜ r ≡ isQuality quality ⌝ }
+{
+    1 <= quality && quality <= 2
+}
+
+// Refuses an argument that is outside its limits, by its number.
+pub fn admit(argument: u8, within: bool) -> Result<(), Fault>
+    ensures { λ r. ⌜ r ≡ unless within (ArgumentOutsideLimits argument) (Ok tt) ⌝ }
+{
+    if within {
+        Ok(())
+    } else {
+        Err(Fault::ArgumentOutsideLimits { argument })
+    }
 }
 
 // The terms of a book, by their numbers.

@@ -19,6 +19,7 @@ pub use records::ReadingRecordDebug;
 pub use records::ReadingRecordPartialEq;
 pub use writer::notice;
 pub use writer::rewrite;
+pub use writer::statement_bytes;
 pub use writer::write_readings;
 pub use writer::write_schedule;
 pub use writer::write_statement;

@@ -8,8 +8,13 @@ ghost use Rattle.std.specs.Vec.{made};
 ghost use Rattle.std.specs.shelf.Lists.{All, joined};
 ghost use Rattle.std.specs.declared.result.Result.the-variants.{Ok};
 ghost use Rattle.files.specs.Records.{encodedIntro, WholeIntro, encodedRow, WholeRow};
+<<<<<<< HEAD
 ghost use Rattle.files.specs.Formats.{kindNumber, headerOf};
 ghost use Rattle.files.specs.Contents.{ofSchedule, ofReadings, ofStatement, fileOf, contentRead, rewritten, writing, rewriting, over, settled, noticeOf};
+=======
+ghost use Rattle.files.specs.Formats.{kindNumber, headerOf, statementSize};
+ghost use Rattle.files.specs.Contents.{schedule, readings, statement, fileOf, contentRead, rewritten, writing, rewriting, over, settled, noticeOf};
+>>>>>>> booktests
 ghost use Rattle.files.specs.declared.formats.Kind.the-variants as kind;
 use crate::formats::HEADER;
 use crate::formats::INTRO;
@@ -116,6 +121,13 @@ pub fn write_schedule(
         &mut out[HEADER..],
     );
     Ok(written)
+}
+
+// The bytes of a statement of so many lines.
+pub fn statement_bytes(lines: u16) -> usize
+    ensures { λ r. ⌜ r ≡ statementSize lines ⌝ }
+{
+    HEADER + Kind::Statement.body(usize::from(lines))
 }
 
 // The notice that a schedule was accepted, as a file of its own.

@@ -1,0 +1,5 @@
+pub mod Kept
+pub mod Readings
+pub mod Volumes
+pub mod Sharing
+pub mod Statements
