@@ -7,6 +7,7 @@ use Prim.Native.Nat.{ℕ, suc, _-_}
 use lib.Dec.{leb, eqb}
 use lib.IntN.{ℤ, pos}
 use lib.ListN.{getD}
+use Rattle.std.specs.Iters.{folded}
 use Rattle.std.specs.Options.{valueOr}
 use Rattle.std.specs.shelf.Maps.{nth}
 use Rattle.std.specs.declared.option.Option.{Option}
@@ -120,7 +121,7 @@ issued t m b day run = record {
   scheduled = b .scheduled;
   read = b .read;
   ended = b .ended;
-  written = at (b .written) day (λ period. cond (isPeriod period) (Some (writes t m b day period)) None);
+  written = at (b .written) day (λ period. cond (isPeriod period) (Some (writes t m b day period)) (b .written day period));
   lines = b .lines ++ issueLines t m b day run;
 }
 
@@ -163,3 +164,7 @@ after t m b (Issue day run) = issued t m b day run
 -- a refused call changes nothing
 abbrev pub plainStep : Terms → Meaning → Plain → Call → Bool → Plain
 plainStep t m b call accepted = cond accepted (after t m b call) b
+
+-- the plain book after some calls, each with whether it was accepted
+abbrev pub plainRun : Terms → Meaning → Plain → List (Call × Bool) → Plain
+plainRun t m = folded (λ b step. plainStep t m b (step .0) (step .1))

@@ -1,5 +1,5 @@
 // A season: a list of calls, run one after the other on one book.
-ghost use Rattle.season.specs.Law.{Adds};
+ghost use Rattle.season.specs.Granted.{LinesAddUp};
 use domain::AllocationRow;
 
 // A call of the book that changes something.
@@ -32,3 +32,8 @@ pub enum Call<'a> {
         run: u8,
     },
 }
+
+// After every run of calls whose issues found their day ready, the lines add up.
+pub fn lines_add_up()
+    ensures { λ _. ⌜ LinesAddUp ⌝ }
+{}
