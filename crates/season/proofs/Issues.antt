@@ -1,21 +1,21 @@
 -- An issue keeps the law.
 use mathlib.Core.Path.{_≡_, refl, sym, ap, subst, _∙_}
 use mathlib.Core.Logic.{⊎-elim}
-use mathlib.Core.List.{List, [], _∷_, _++_}
+use mathlib.Core.List.{List, _++_}
 use mathlib.Core.Bool.{Bool, true, false, cond, _&&_}
-use Prim.Native.Nat.{ℕ, zero, suc, _+_, _-_, _≤_, _<_}
+use Prim.Native.Nat.{ℕ, suc, _-_, _≤_, _<_}
 use native.Mathlib.Omega.{arith}
 use lib.Dec.{eqb, leb}
-use lib.IntN.{ℤ, pos, negsuc, _+ℤ_, +ℤ-idr, +ℤ-comm}
+use lib.IntN.{ℤ, pos, _+ℤ_, +ℤ-idr, +ℤ-comm}
 use lib.Signed.{_<ℤ_}
 use Rattle.std.proofs.shelf.Signed.{ints}
-use Rattle.std.proofs.shelf.Tests.{cond-true, cond-false, cond-both, eq-eqb, ne-eqb, eqb-true, eqb-false, leb-true, le-leb, cases-eq, cases-lt, both-ways, and-left, and-right, and-from, and-parts}
+use Rattle.std.proofs.shelf.Tests.{cond-false, cond-both, eq-eqb, ne-eqb, eqb-true, eqb-false, leb-true, le-leb, cases-eq, cases-lt, both-ways, and-left, and-right, and-from, and-parts}
 use Rattle.std.specs.Options.{valueOr}
 use Rattle.std.specs.declared.option.Option.{Option}
 use Rattle.std.specs.declared.option.Option.the-variants.{Some, None}
 use Rattle.domain.specs.Limits.{periods}
 use Rattle.domain.specs.Checks.{isPeriod}
-use Rattle.domain.specs.Lines.{lineOf, slotLines, gathered}
+use Rattle.domain.specs.Lines.{lineOf, slotLines}
 use Rattle.domain.specs.declared.Line.{Line}
 use Rattle.domain.specs.declared.terms.Terms.{Terms}
 use Rattle.rules.specs.Meaning.{Meaning}

@@ -1,23 +1,17 @@
 -- The law at the start, through the other calls, and at the end of every run.
-use Prim.{Unit}
-use mathlib.Core.Path.{_≡_, refl, sym, ap, subst, _∙_}
+use mathlib.Core.Path.{_≡_, refl, sym, ap, _∙_}
 use mathlib.Core.List.{List, [], _∷_}
-use mathlib.Core.Bool.{Bool, true, false, cond}
-use Prim.Native.Nat.{ℕ, zero, suc}
+use mathlib.Core.Bool.{Bool, true, false}
+use Prim.Native.Nat.{ℕ}
 use native.Mathlib.Omega.{arith}
-use lib.IntN.{ℤ, pos}
-use lib.Signed.{_<ℤ_}
 use Rattle.std.proofs.shelf.Signed.{ints}
-use Rattle.std.specs.declared.option.Option.{Option}
-use Rattle.std.specs.declared.option.Option.the-variants.{Some, None}
-use Rattle.domain.specs.declared.Line.{Line}
 use Rattle.domain.specs.declared.terms.Terms.{Terms}
 use Rattle.rules.specs.Meaning.{Meaning, Laws}
 use Rattle.season.specs.declared.Call.{Call}
 use Rattle.season.specs.declared.Call.the-variants.{Register, Schedule, Reading, End, Issue}
-use Rattle.season.specs.Plain.{Plain, Written, nothingYet, after, plainStep, plainRun}
-use Rattle.season.specs.Law.{sumOf, ofPeriod, ofPlace, kwhOf, shareFor, Balances, Adds}
-use Rattle.season.specs.Sound.{Sound, AllSound}
+use Rattle.season.specs.Plain.{Plain, nothingYet, after, plainStep, plainRun}
+use Rattle.season.specs.Law.{sumOf, ofPeriod, ofPlace, kwhOf, shareFor, Adds}
+use Rattle.season.specs.Sound.{AllSound}
 use Rattle.season.specs.Granted.{Granted, AllGranted, LinesAddUp}
 use Rattle.season.proofs.Splits.{sound-writes}
 use Rattle.season.proofs.Issues.{adds-from, law-issue}

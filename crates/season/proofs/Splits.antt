@@ -1,14 +1,14 @@
 -- What an issue writes down for a period that is ready is a proper split.
-use mathlib.Core.Path.{_≡_, refl, sym, ap, subst, _∙_}
+use mathlib.Core.Path.{_≡_, refl, ap, subst, _∙_}
 use mathlib.Core.Logic.{⊎-elim}
 use mathlib.Core.List.{List, [], _∷_}
 use mathlib.Core.Bool.{Bool, true, false, cond}
-use Prim.Native.Nat.{ℕ, zero, suc, _+_, _≤_, _<_}
+use Prim.Native.Nat.{ℕ, zero, suc, _≤_, _<_}
 use native.Mathlib.Omega.{arith}
 use lib.Dec.{eqb, leb}
-use lib.ListN.{length, getD, take, length-take}
-use lib.IntN.{ℤ, pos, negsuc, _+ℤ_}
-use lib.Signed.{_<ℤ_, _≤ℤ_}
+use lib.ListN.{length, getD, length-take}
+use lib.IntN.{ℤ, pos, _+ℤ_}
+use lib.Signed.{_<ℤ_}
 use Rattle.std.proofs.shelf.Lists.{getD-past}
 use Rattle.std.proofs.shelf.Signed.{ints}
 use Rattle.std.proofs.shelf.Tests.{cond-true, cond-false, ne-eqb, eq-eqb, cases-eq, cases-lt, cases-bool, both-ways, and-parts, and-from, le-leb}
@@ -19,9 +19,9 @@ use Rattle.domain.specs.Limits.{periods, mostKwh}
 use Rattle.domain.specs.Checks.{isPeriod}
 use Rattle.domain.specs.declared.AllocationRow.{AllocationRow}
 use Rattle.domain.specs.declared.terms.Terms.{Terms}
-use Rattle.rules.specs.Meaning.{Agreement, Meaning, Laws, Split, total, inRange}
+use Rattle.rules.specs.Meaning.{Meaning, Laws, total, inRange}
 use Rattle.rows.specs.Rows.{agreement}
-use Rattle.season.specs.Plain.{Plain, Written, hasEnded, holds, inUse, rowOf, sharesOf, writes}
+use Rattle.season.specs.Plain.{Plain, hasEnded, holds, inUse, sharesOf, writes}
 use Rattle.season.specs.Sound.{sumBelow, Sound}
 use Rattle.season.proofs.Sums.{below-none, below-one, below-front}
 

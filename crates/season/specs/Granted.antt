@@ -1,7 +1,7 @@
 -- What an accepted issue may count on, and the law for every run of calls whose issues may.
 use Prim.{Unit}
 use mathlib.Core.Path.{_≡_}
-use mathlib.Core.Bool.{Bool, true, false}
+use mathlib.Core.Bool.{Bool, true}
 use mathlib.Core.List.{List, [], _∷_}
 use Prim.Native.Nat.{ℕ, _<_, _≤_}
 use Rattle.std.specs.Options.{valueOr}
