@@ -1,0 +1,7 @@
+pub mod Posted
+pub mod Days
+pub mod First
+pub mod InForce
+pub mod Slots
+pub mod Sheets
+pub mod Issue

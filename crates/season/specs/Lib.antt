@@ -1,0 +1,4 @@
+pub mod Plain
+pub mod Law
+pub mod Sound
+pub mod Granted
