@@ -2,3 +2,4 @@ pub mod Plain
 pub mod Law
 pub mod Sound
 pub mod Granted
+pub mod Steps
