@@ -1,5 +1,5 @@
 -- What the answers of a history say of its entries.
-use mathlib.Core.Path.{_≡_, refl, sym, ap, subst, _∙_}
+use mathlib.Core.Path.{_≡_, refl, ap, _∙_}
 use mathlib.Core.Bool.{Bool, true, false, cond}
 use mathlib.Core.List.{List, [], _∷_}
 use mathlib.Core.Logic.{⊎-elim}
@@ -9,7 +9,7 @@ use Rattle.std.specs.Options.{mapped, Cases}
 use Rattle.std.specs.declared.option.Option.{Option}
 use Rattle.std.specs.declared.option.Option.the-variants.{Some, None}
 use Rattle.std.proofs.shelf.Results.{cases-at-some, cases-at-none}
-use Rattle.std.proofs.shelf.Tests.{cases-lt, both-ways, eqb-true}
+use Rattle.std.proofs.shelf.Tests.{cases-lt}
 use Rattle.std.proofs.shelf.Ways.{tells}
 use Rattle.history.specs.Latest.{latest}
 use Rattle.history.specs.Entries.{isOn, found, inForce}

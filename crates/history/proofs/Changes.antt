@@ -1,16 +1,19 @@
 -- What puts change of later answers, and what they leave.
 use mathlib.Core.Path.{_≡_, refl, sym, ap, _∙_}
-use mathlib.Core.List.{List}
+use mathlib.Core.Bool.{Bool, true, false, cond}
+use mathlib.Core.List.{List, [], _∷_}
 use mathlib.Core.Logic.{⊎-elim}
-use Prim.Native.Nat.{ℕ, _+_, _<_, _≤_}
+use Prim.Native.Nat.{ℕ, _+_, _≤_}
 use native.Mathlib.Omega.{arith}
+use lib.Dec.{eqb}
 use Rattle.std.specs.Options.{mapped}
-use Rattle.std.specs.declared.option.Option.{Option}
 use Rattle.std.specs.declared.option.Option.the-variants.{Some, None}
+use Rattle.std.proofs.shelf.Tests.{and-parts, eqb-true}
+use Rattle.std.proofs.shelf.Ways.{tells}
 use Rattle.history.specs.Latest.{latest}
-use Rattle.history.specs.Entries.{found, inForce, entryAt, keyed}
+use Rattle.history.specs.Entries.{isOn, found, inForce, entryAt, keyed}
 use Rattle.history.specs.Puts.{putOne, putAll, onDay}
-use Rattle.history.specs.Questions.{Stands, SameInForce, InForceFrom, AfterPut, AfterDay}
+use Rattle.history.specs.Questions.{Stands, Distinct, SameInForce, InForceFrom, AfterPut, AfterDay}
 use Rattle.history.specs.declared.Dated.{Dated}
 use Rattle.history.proofs.Latests.{option-cases, latest-is, latest-same, latest-since}
 use Rattle.history.proofs.Finding.{is-off}
@@ -66,6 +69,26 @@ module _ {T : Type 0} where
         };
   }
 
+  -- puts keep the entries distinct
+  pub distinct-put : (t : List (Dated T)) (x : Dated T) → Distinct t → Distinct (putOne t x)
+  unfolding putOne found
+  distinct-put [] x h = (refl, tt)
+  distinct-put (y ∷ t) x h = go (isOn (x .subject) (x .day) y) refl (distinct-put t x (h .1))
+    where
+      go : (b : Bool) → isOn (x .subject) (x .day) y ≡ b → Distinct (putOne t x) → Distinct (cond b (x ∷ t) (y ∷ putOne t x))
+      go true e below =
+          let both = and-parts (eqb (y .subject) (x .subject)) (eqb (y .day) (x .day)) e in
+          let subject : x .subject ≡ y .subject = sym (eqb-true (y .subject) (x .subject) (both .0)) in
+          let day : x .day ≡ y .day = sym (eqb-true (y .day) (x .day) (both .1)) in
+          (rw (subject, day) (h .0), h .1)
+      go false e below =
+          let off : isOn (y .subject) (y .day) x ≡ false = grind (arith, tells) in
+          (found-put-other t x (y .subject) (y .day) off ∙ h .0, below)
+
+  pub distinct-all : (xs t : List (Dated T)) → Distinct t → Distinct (putAll t xs)
+  distinct-all [] t h = h
+  distinct-all (x ∷ xs) t h = distinct-all xs (putOne t x) (distinct-put t x h)
+
   pub after-put : (t : List (Dated T)) (x : Dated T) → AfterPut t x (putOne t x)
   after-put t x = record {
     put = in-force-from t (putOne t x) (x .subject) (x .day) (x .entry) (record {
@@ -74,6 +97,7 @@ module _ {T : Type 0} where
     }) (keyed-put-here t x);
     others = λ s e apart. same-in-force t (putOne t x) s e (λ k l. found-put-other t x s k (is-off s k x (λ p q. apart (sym p)))) (λ k l. keyed-put-other t x s k (is-off s k x (λ p q. apart (sym p))));
     finds = λ s e apart. found-put-other t x s e (is-off s e x (λ p q. apart (sym p) (sym q)));
+    distinct = distinct-put t x;
   }
 
   pub after-day : (t : List (Dated T)) (d : ℕ) (items : List T) → AfterDay t d items (putAll t (onDay d 1 items))
@@ -86,4 +110,5 @@ module _ {T : Type 0} where
     others = λ s e apart.
         same-in-force t (putAll t (onDay d 1 items)) s e (λ k h. found-day-other items t d 1 s k (λ p l m. apart l (omega arith))) (λ k h. keyed-day-other items t d 1 s k (λ p l m. apart l (omega arith)));
     finds = λ s e apart. found-day-other items t d 1 s e (λ p l m. apart p);
+    distinct = distinct-all (onDay d 1 items) t;
   }

@@ -6,7 +6,7 @@ use native.Mathlib.Omega.{arith}
 use Rattle.std.specs.declared.option.Option.{Option}
 use Rattle.std.specs.declared.option.Option.the-variants.{Some, None}
 use Rattle.std.proofs.shelf.Tests.{cases-eq}
-use Rattle.history.specs.Latest.{orElse, latest}
+use Rattle.history.specs.Latest.{latest}
 
 -- an option is one or the other
 pub option-cases : {A : Type 0} (o : Option A) → (o ≡ None) ⊎ ((x : A) × (o ≡ Some x))

@@ -5,8 +5,7 @@ use mathlib.Core.List.{List, [], _∷_, _++_}
 use Prim.Native.Nat.{ℕ, suc, _+_, _-_, _<_, _≤_}
 use native.Mathlib.Omega.{arith}
 use lib.ListN.{length, set, take, drop}
-use Rattle.std.specs.Options.{isSome}
-use Rattle.std.specs.shelf.Maps.{nth}
+use Rattle.std.specs.Options.{isSome, Cases}
 use Rattle.std.specs.declared.option.Option.{Option}
 use Rattle.std.specs.declared.option.Option.the-variants.{Some, None}
 use lib.Dec.{ltb}
@@ -19,21 +18,41 @@ use Rattle.std.proofs.shelf.Lists.{append-assoc, length-set, length-take-le, le
 use Rattle.std.proofs.shelf.Maps.{nth-past}
 use Rattle.std.proofs.shelf.Tests.{cases-lt, lt-ltb, le-ltb}
 use mathlib.Core.Logic.{⊎-elim}
-use Rattle.history.specs.Entries.{found}
+use Rattle.history.specs.Entries.{found, inForce}
+use Rattle.history.specs.Questions.{Stands, NoneOn, FirstOn, NoneDue, InForce}
 use Rattle.history.specs.Puts.{putOne, holding, roomFor}
 use Rattle.history.specs.declared.Dated.{Dated}
 use Rattle.history.proofs.Latests.{some-is-not-none}
-use Rattle.history.proofs.Answered.{found-first}
+use Rattle.history.proofs.Answered.{found-first, found-says, in-force-says}
 use Rattle.history.proofs.Putting.{placed, put-placed, length-put}
 
 module _ {T : Type 0} where
-  -- what is found stands in the table
-  pub found-within : (t : List (Dated T)) (s d i : ℕ) → found t s d ≡ Some i → i < length t
-  found-within t s d i h =
+  -- what stands in the table is within it
+  stands-within : (t : List (Dated T)) (i : ℕ) (x : Dated T) → Stands t i x → i < length t
+  stands-within t i x at =
       ⊎-elim
       (λ (l : i < length t). l)
-      (λ (l : length t ≤ i). absurd (some-is-not-none (found-first t s d i h .stands) (nth-past t i l)))
+      (λ (l : length t ≤ i). absurd (some-is-not-none at (nth-past t i l)))
       (cases-lt i (length t))
+
+  pub found-within : (t : List (Dated T)) (s d i : ℕ) → found t s d ≡ Some i → i < length t
+  found-within t s d i h =
+      let on = found-first t s d i h in
+      stands-within t i (on .dated) (on .stands)
+
+  pub found-within-says : (t : List (Dated T)) (s d : ℕ) → Cases (found t s d) (Unit {0}) (λ i. i < length t)
+  found-within-says t s d = go (found t s d) (found-says t s d)
+    where
+      go : (o : Option ℕ) → Cases o (NoneOn t s d) (FirstOn t s d) → Cases o (Unit {0}) (λ i. i < length t)
+      go None h = tt
+      go (Some i) h = stands-within t i (h .dated) (h .stands)
+
+  pub in-force-within : (t : List (Dated T)) (s d : ℕ) → Cases (inForce t s d) (Unit {0}) (λ i. i < length t)
+  in-force-within t s d = go (inForce t s d) (in-force-says t s d)
+    where
+      go : (o : Option ℕ) → Cases o (NoneDue t s d) (InForce t s d) → Cases o (Unit {0}) (λ i. i < length t)
+      go None h = tt
+      go (Some i) h = stands-within t i (h .dated) (h .stands)
 
   module _ (entries : List (Dated T)) (count : ℕ) (x : Dated T) (held : count ≤ length entries) where
     size : length (take count entries) ≡ count

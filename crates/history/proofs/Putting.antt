@@ -3,9 +3,9 @@ use mathlib.Core.Path.{_≡_, refl, sym, ap, _∙_}
 use mathlib.Core.Bool.{Bool, true, false, cond, _&&_}
 use mathlib.Core.List.{List, [], _∷_, _++_}
 use mathlib.Core.Logic.{_⊎_, inl, inr}
-use Prim.Native.Nat.{ℕ, zero, suc, _+_, _-_, _<_, _≤_}
+use Prim.Native.Nat.{ℕ, suc, _+_, _-_, _<_, _≤_}
 use native.Mathlib.Omega.{arith}
-use lib.ListN.{length, set, take, drop}
+use lib.ListN.{length, set}
 use lib.Dec.{eqb, leb}
 use Rattle.std.specs.Options.{mapped, isSome}
 use Rattle.std.specs.shelf.Maps.{nth}
@@ -17,9 +17,8 @@ use Rattle.history.specs.Latest.{orElse}
 use Rattle.history.specs.Entries.{isOn, found, keyed}
 use Rattle.history.specs.Puts.{putOne, putAll, onDay}
 use Rattle.history.specs.declared.Dated.{Dated}
-use Rattle.history.proofs.Latests.{some-is-not-none}
 use Rattle.history.proofs.Finding.{is-off}
-use Rattle.history.proofs.Keyed.{keyed-nil, keyed-cons}
+use Rattle.history.proofs.Keyed.{keyed-cons}
 
 or-none-of : {A : Type 0} (b : Bool) (o : Option A) → orElse (cond b None None) o ≡ o
 or-none-of true o = refl

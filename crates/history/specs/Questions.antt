@@ -1,10 +1,10 @@
 -- What the answers of a history say of its entries, and what a put changes of later answers.
 use mathlib.Core.Path.{_≡_}
-use mathlib.Core.List.{List}
+use mathlib.Core.List.{List, [], _∷_}
 use Prim.Native.Nat.{ℕ, _+_, _<_, _≤_}
 use lib.ListN.{length}
 use Rattle.std.specs.shelf.Maps.{nth}
-use Rattle.std.specs.declared.option.Option.the-variants.{Some}
+use Rattle.std.specs.declared.option.Option.the-variants.{Some, None}
 use Rattle.history.specs.Entries.{found, inForce, entryAt}
 use Rattle.history.specs.declared.Dated.{Dated}
 
@@ -40,6 +40,11 @@ module _ {T : Type 0} where
     pub ofDay : dated .day ≡ d
     pub first : (k : ℕ) (y : Dated T) → k < i → Stands t k y → y .subject ≡ s → y .day ≡ d → ⊥
 
+  -- no entry is followed by another of its subject and day
+  abbrev pub Distinct : List (Dated T) → Type 0
+  Distinct [] = Unit {0}
+  Distinct (x ∷ t) = (found t (x .subject) (x .day) ≡ None) × Distinct t
+
   -- the same index is in force as before, with the same entry
   pub record SameInForce (t u : List (Dated T)) (s d : ℕ) : Type 0 where
     pub index : inForce u s d ≡ inForce t s d
@@ -59,9 +64,11 @@ module _ {T : Type 0} where
     pub put : InForceFrom t u (x .subject) (x .day) (x .entry)
     pub others : (s e : ℕ) → (s ≡ x .subject → ⊥) → SameInForce t u s e
     pub finds : (s e : ℕ) → (s ≡ x .subject → e ≡ x .day → ⊥) → found u s e ≡ found t s e
+    pub distinct : Distinct t → Distinct u
 
   -- what the puts of one day change and leave: the first item is the subject 1's, the next the subject 2's, and so on
   pub record AfterDay (t : List (Dated T)) (d : ℕ) (items : List T) (u : List (Dated T)) : Type 0 where
     pub put : (k : ℕ) (x : T) → nth items k ≡ Some x → InForceFrom t u (k + 1) d x
     pub others : (s e : ℕ) → (1 ≤ s → s ≤ length items → ⊥) → SameInForce t u s e
     pub finds : (s e : ℕ) → (e ≡ d → ⊥) → found u s e ≡ found t s e
+    pub distinct : Distinct t → Distinct u

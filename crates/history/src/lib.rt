@@ -8,7 +8,8 @@ ghost use Rattle.std.specs.Results.{Cases as ByOk};
 ghost use Rattle.std.specs.declared.option.Option.the-variants.{None};
 ghost use Rattle.domain.specs.Limits.{periods};
 ghost use Rattle.domain.specs.declared.Fault.the-variants.{Spoiled};
-ghost use Rattle.history.specs.Entries.{isOn, isDue, found, inForce};
+ghost use Rattle.history.specs.Latest.{latest};
+ghost use Rattle.history.specs.Entries.{isOn, isDue, found, inForce, entryAt, keyed};
 ghost use Rattle.history.specs.Puts.{putOne, putAll, putDay, onDay, holding, holdingIf, roomFor};
 ghost use Rattle.history.specs.Questions.{InForce, NoneDue, FirstOn, NoneOn, AfterPut, AfterDay};
 use domain::Fault;
@@ -63,6 +64,7 @@ impl<'a, T> History<'a, T> {
     // The index of the first entry of the subject and the day.
     pub fn find(self, subject: u8, day: u16) -> Option<usize>
         ensures is { λ r. ⌜ r ≡ found (now (self .entry .entries)) subject day ⌝ }
+        ensures within { λ r. ⌜ BySome r (Unit {0}) (λ i. i < length (now (self .entry .entries))) ⌝ }
         ensures says { λ r. ⌜ BySome r (NoneOn (now (self .entry .entries)) subject day) (FirstOn (now (self .entry .entries)) subject day) ⌝ }
     {
         first_on(self.entries, subject, day)
@@ -71,12 +73,15 @@ impl<'a, T> History<'a, T> {
     // The index of the subject's entry of the latest day not after the given one, the first among equals.
     pub fn in_force(self, subject: u8, day: u16) -> Option<usize>
         ensures is { λ r. ⌜ r ≡ inForce (now (self .entry .entries)) subject day ⌝ }
+        ensures within { λ r. ⌜ BySome r (Unit {0}) (λ i. i < length (now (self .entry .entries))) ⌝ }
+        ensures entry { λ r. ⌜ entryAt (now (self .entry .entries)) r ≡ latest (keyed (now (self .entry .entries)) subject) day ⌝ }
         ensures says { λ r. ⌜ BySome r (NoneDue (now (self .entry .entries)) subject day) (InForce (now (self .entry .entries)) subject day) ⌝ }
     {
         latest_due(self.entries, subject, day)
     }
 }
 
+// A history's methods hand its slice on to the two searches below. Each is one pass.
 fn first_on<T>(entries: &[Dated<T>], subject: u8, day: u16) -> Option<usize>
     ensures { λ r. ⌜ r ≡ found (now (entries .entry)) subject day ⌝ }
 {
@@ -184,6 +189,7 @@ pub fn put_day<T: Copy>(
 // The most items of a day: one for each Settlement Period.
 const DAY_ITEMS: usize = PERIODS as usize;
 
+// The first items, no more than a day has.
 fn of_day<T>(items: &[T]) -> &[T]
     ensures { λ r. ⌜ now r ≡ take periods (now (items .entry)) ⌝ }
 {

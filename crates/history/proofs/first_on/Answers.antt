@@ -1,11 +1,9 @@
-use mathlib.Core.Path.{_≡_, refl, sym, ap, _∙_}
-use mathlib.Core.List.{List, [], _∷_, _++_}
-use Prim.Native.Nat.{_+_}
+use mathlib.Core.Path.{_≡_, refl, sym}
 use lib.ListN.{take, length}
-use Rattle.std.proofs.shelf.Lists.{take-more, take-all}
+use Rattle.std.proofs.shelf.Lists.{take-all}
 use Rattle.std.proofs.shelf.Maps.{nth-read}
-use Rattle.history.specs.Entries.{found, isOn}
-use Rattle.history.proofs.Finding.{found-push, found-here, found-more}
+use Rattle.history.specs.Entries.{found}
+use Rattle.history.proofs.Finding.{found-here, found-more}
 use Rattle.history.proofs.first_on.Needs as need
 
 pub loop-i-holds : need.loop-i-holds

@@ -1,17 +1,13 @@
-use mathlib.Core.Path.{_≡_, refl, sym, ap, subst, _∙_}
-use mathlib.Core.Bool.{_&&_, false, true}
-use mathlib.Core.List.{List, [], _∷_, _++_}
-use Prim.Native.Nat.{ℕ, _+_}
-use native.Mathlib.Omega.{arith}
+use mathlib.Core.Path.{_≡_, refl, sym, _∙_}
+use mathlib.Core.Bool.{true}
 use borrow.Author.Needs.{needs}
 use lib.Dec.{ltb}
-use lib.ListN.{take, length, getD}
-use Rattle.std.proofs.shelf.Lists.{take-more, take-all, length-take-le}
+use lib.ListN.{take}
+use Rattle.std.proofs.shelf.Lists.{take-all}
 use Rattle.std.proofs.shelf.Tests.{and-right, and-left}
 use Rattle.history.specs.Latest.{latest}
 use Rattle.history.specs.Entries.{found, isDue}
-use Rattle.history.proofs.Sofar.{SoFar, isLater, so-far-is, later-first, later-than, so-far-took, so-far-kept}
-use Rattle.history.specs.declared.Dated.{Dated}
+use Rattle.history.proofs.Sofar.{isLater, so-far-is, later-first, later-than, so-far-took, so-far-kept}
 use Rattle.history.proofs.latest_due.Needs as need
 use Rattle.history.proofs.latest_due.Needs.{then-is-none, else-is-none, then-due·then-later, else-due, else-due·by·then-due·else-later, else-due·by·else-due}
 

@@ -1,6 +1,6 @@
 use mathlib.Core.Path.{_≡_, refl, ap, _∙_}
 use native.Mathlib.Omega.{arith}
-use lib.ListN.{length, take}
+use lib.ListN.{take}
 use Rattle.history.specs.Entries.{found}
 use Rattle.history.specs.Puts.{putOne}
 use Rattle.history.proofs.Placing.{count-after, take-holding, room-for, no-room-for}

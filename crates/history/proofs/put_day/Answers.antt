@@ -1,9 +1,10 @@
-use mathlib.Core.Path.{_≡_, refl, sym, ap, _∙_}
+use mathlib.Core.Path.{_≡_, refl, ap, _∙_}
 use mathlib.Core.List.{List}
-use Prim.Native.Nat.{ℕ, _+_, _≤_}
+use Prim.Native.Nat.{_+_, _≤_}
 use native.Mathlib.Omega.{arith}
 use lib.ListN.{length, take}
 use Rattle.std.proofs.shelf.Lists.{length-take}
+use Rattle.domain.specs.Limits.{periods}
 use Rattle.history.specs.Entries.{found}
 use Rattle.history.specs.Puts.{putAll, putDay, onDay, holding}
 use Rattle.history.specs.declared.Dated.{Dated}
@@ -13,7 +14,7 @@ use Rattle.history.proofs.put_day.Needs as need
 
 pub places-needed-requires : need.places-needed-requires
 places-needed-requires g c κs =
-    let size = ap length (c .of-day-items .ensures) ∙ length-take 48 (c .args .items .now) in
+    let size = ap length (c .of-day-items .ensures) ∙ length-take periods (c .args .items .now) in
     omega arith
 
 pub place-day-requires : need.place-day-requires
@@ -22,7 +23,7 @@ place-day-requires g c κs =
     let d = c .args .day in
     let held = c .in-Continue-held .ensures tt in
     let needed = c .places-needed .ensures .needed ∙ ap (λ (t : List (Dated (g .T .Denot))). length (putAll t (onDay d 1 items))) (held .1) in
-    let size = ap length (c .of-day-items .ensures) ∙ length-take 48 (c .args .items .now) in
+    let size = ap length (c .of-day-items .ensures) ∙ length-take periods (c .args .items .now) in
     record {
       held = held .0;
       few = omega arith;
@@ -59,5 +60,5 @@ returns g c =
     record {
       result = room-for e h (c .args .table) n (c .place-day .result) (held .0) count room;
       after = after;
-      says = rw put (after-day (take n e) d (take 48 (c .args .items .now)));
+      says = rw put (after-day (take n e) d (take periods (c .args .items .now)));
     }

@@ -1,9 +1,11 @@
-use Rattle.std.specs.Options.{Cases}
-use Rattle.history.specs.Questions.{NoneOn, FirstOn}
 use Rattle.history.proofs.Answered.{found-says}
+use Rattle.history.proofs.Placing.{found-within-says}
 use Rattle.history.proofs.History.find.Needs as need
 
 pub returns : need.returns
 returns g c =
     let t = c .args .self .entries .now in
-    record { is = c .first-on .ensures; says = rw (c .first-on .ensures) (found-says t (c .args .subject) (c .args .day)) }
+    let s = c .args .subject in
+    let d = c .args .day in
+    let is = c .first-on .ensures in
+    record { is = is; within = rw is (found-within-says t s d); says = rw is (found-says t s d) }

@@ -10,7 +10,6 @@ use Rattle.std.specs.declared.option.Option.the-variants.{None}
 use Rattle.std.proofs.shelf.Lists.{length-set, take-all}
 use Rattle.std.proofs.shelf.Edits.{fill-by-more}
 use Rattle.history.specs.Entries.{found}
-use Rattle.history.specs.Puts.{putAll, onDay}
 use Rattle.history.proofs.Days.{day-none, day-count, one-at-most}
 use Rattle.history.proofs.History.places.Needs as need
 
