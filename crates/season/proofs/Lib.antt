@@ -2,3 +2,4 @@ pub mod Sums
 pub mod Splits
 pub mod Issues
 pub mod Runs
+pub mod Agrees

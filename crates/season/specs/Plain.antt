@@ -65,6 +65,10 @@ nothingYet = record {
 abbrev pub at : {A : Type 0} → (ℕ → A) → ℕ → A → ℕ → A
 at f n x m = cond (eqb m n) x (f m)
 
+-- f, but x at the two numbers n and k
+abbrev pub atBoth : {A : Type 0} → (ℕ → ℕ → A) → ℕ → ℕ → A → ℕ → ℕ → A
+atBoth f n k x m j = cond (eqb n m && eqb k j) x (f m j)
+
 -- the sharing has ended by that day
 abbrev pub hasEnded : Option ℕ → ℕ → Bool
 hasEnded None day = false
@@ -128,7 +132,7 @@ issued t m b day run = record {
 -- the plain book after a call that was accepted
 abbrev pub after : Terms → Meaning → Plain → Call → Plain
 after t m b (Register place day supplier) = record {
-  registered = at (b .registered) place (at (b .registered place) day (Some supplier));
+  registered = atBoth (b .registered) place day (Some supplier);
   scheduled = b .scheduled;
   read = b .read;
   ended = b .ended;
@@ -146,7 +150,7 @@ after t m b (Schedule sender day moment rows) = record {
 after t m b (Reading day period quality kwh) = record {
   registered = b .registered;
   scheduled = b .scheduled;
-  read = at (b .read) day (at (b .read day) period (Some kwh));
+  read = atBoth (b .read) day period (Some kwh);
   ended = b .ended;
   written = b .written;
   lines = b .lines;
