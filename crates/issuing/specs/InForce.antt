@@ -3,7 +3,6 @@ use mathlib.Core.Bool.{Bool, false, cond, not, _||_}
 use mathlib.Core.List.{List}
 use Prim.Native.Nat.{ℕ}
 use lib.Dec.{leb, eqb}
-use Rattle.std.specs.Options.{valueOr}
 use Rattle.std.specs.declared.option.Option.{Option}
 use Rattle.std.specs.declared.option.Option.the-variants.{Some, None}
 use Rattle.domain.specs.declared.AllocationRow.{AllocationRow}
@@ -25,10 +24,6 @@ needsHolder ended place = not ended || eqb place 0
 -- the holder in force at a place that needs one
 abbrev pub supplierOf : List (Dated ℕ) → Bool → ℕ → ℕ → Option ℕ
 supplierOf hs ended day place = cond (needsHolder ended place) (entryAt hs (inForce hs place day)) None
-
--- the same, 0 for none
-abbrev pub holderOf : List (Dated ℕ) → Bool → ℕ → ℕ → ℕ
-holderOf hs ended day place = valueOr (supplierOf hs ended day place) 0
 
 -- the row in force in a period; from the end day on no row is read
 abbrev pub rowOf : List (Dated AllocationRow) → Bool → ℕ → ℕ → Option AllocationRow

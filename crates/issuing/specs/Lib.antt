@@ -3,5 +3,5 @@ pub mod Days
 pub mod First
 pub mod InForce
 pub mod Slots
-pub mod Sheets
 pub mod Issue
+pub mod Granted

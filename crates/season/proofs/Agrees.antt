@@ -65,7 +65,7 @@ pub record Agrees (t : Terms) (st : State) (b : Plain) : Type 0 where
   pub lines : take (st .kept .lines) (st .journal) ≡ b .lines
 
 -- a period's row stands in a schedule
-slot-below : (p n : ℕ) → n ≡ periods → isPeriod p ≡ true → p - 1 < n
+pub slot-below : (p n : ℕ) → n ≡ periods → isPeriod p ≡ true → p - 1 < n
 slot-below p n long within = let most : p ≤ periods = grind (arith, tells) in let least : 1 ≤ p = grind (arith, tells) in omega arith
 
 -- and its reading in the table of readings

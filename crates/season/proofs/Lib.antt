@@ -3,3 +3,4 @@ pub mod Splits
 pub mod Issues
 pub mod Runs
 pub mod Agrees
+pub mod Writings
