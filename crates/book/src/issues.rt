@@ -1,0 +1,70 @@
+// Issuing a day.
+ghost use mathlib.Core.Path.{_≡_};
+ghost use lib.ListN.{length};
+ghost use Rattle.domain.specs.Checks.{settled};
+ghost use Rattle.issuing.specs.Posted.{posted};
+ghost use Rattle.issuing.specs.Issue.{issueAnswer, issuedAfter, dayLines};
+ghost use Rattle.book.specs.Kept.{kept, isClosed};
+ghost use Rattle.book.specs.Issues.{standingOf, afterIssue};
+use domain::AllocationRow;
+use domain::Fault;
+use domain::Line;
+use domain::Reading;
+use domain::Slot;
+use history::Dated;
+use issuing::Standing;
+use rules::Rule;
+use super::Book;
+
+// The run that closes its day, Final Reconciliation.
+const FINAL: u8 = 2;
+
+impl<R: Rule> Book<R> {
+    // Splits a day's readings by the rows in force, and sends each supplier what changed since the day's last issue; answers the lines sent.
+    pub fn issue(
+        &mut self,
+        holders: &[Dated<u16>],
+        rows: &[Dated<AllocationRow>],
+        readings: &[Reading],
+        issued: &mut [Slot],
+        journal: &mut [Line],
+        day: u16,
+        run: u8,
+    ) -> Result<usize, Fault>
+        ensures answer { λ r. ⌜ r ≡ issueAnswer (R·Rule .meaning (now (self .entry) .rule)) (now (self .entry) .terms) (standingOf (kept (now (self .entry))) day) (now (holders .entry)) (now (rows .entry)) (now (readings .entry)) (now (issued .entry)) (length (now (journal .entry))) day run ⌝ }
+        ensures issued { λ r. ⌜ now (issued .exit) ≡ settled r (issuedAfter (R·Rule .meaning (now (self .entry) .rule)) (now (self .entry) .terms) (standingOf (kept (now (self .entry))) day) (now (holders .entry)) (now (rows .entry)) (now (readings .entry)) (now (issued .entry)) day) (now (issued .entry)) ⌝ }
+        ensures journal { λ r. ⌜ now (journal .exit) ≡ settled r (posted (now (journal .entry)) (now (self .entry) .lines) (dayLines (R·Rule .meaning (now (self .entry) .rule)) (now (self .entry) .terms) (standingOf (kept (now (self .entry))) day) (now (holders .entry)) (now (rows .entry)) (now (readings .entry)) (now (issued .entry)) day run)) (now (journal .entry)) ⌝ }
+        ensures keeps { λ r. ⌜ kept (now (self .exit)) ≡ afterIssue r day run (kept (now (self .entry))) ⌝ }
+        ensures same { λ _. ⌜ (now (self .exit) .terms ≡ now (self .entry) .terms) × (now (self .exit) .rule ≡ now (self .entry) .rule) ⌝ }
+    {
+        let standing = self.standing(day);
+        let sent = issuing::issue(
+            &self.rule, self.terms, standing, holders, rows, readings, issued, journal, day, run,
+        )?;
+        self.lines += sent;
+        if run == FINAL {
+            self.closed[usize::from(day)] = true;
+        }
+        Ok(sent)
+    }
+
+    // What the book knows of itself when it issues a day.
+    fn standing(&self, day: u16) -> Standing
+        ensures { λ r. ⌜ r ≡ standingOf (kept (now (self .entry))) day ⌝ }
+    {
+        Standing {
+            holders: self.holders,
+            rows: self.rows,
+            lines: self.lines,
+            ended: self.ended,
+            closed: self.is_closed(day),
+        }
+    }
+
+    fn is_closed(&self, day: u16) -> bool
+        ensures { λ r. ⌜ r ≡ isClosed (kept (now (self .entry))) day ⌝ }
+    {
+        let day = usize::from(day);
+        day < self.closed.len() && self.closed[day]
+    }
+}
