@@ -21,7 +21,7 @@ use Rattle.domain.specs.declared.terms.Terms.{Terms}
 use Rattle.domain.specs.Checks.{unless, isDay, spoiledReading, spoiledSlot, readingsFit, issuedFit, readingAt}
 use Rattle.history.specs.declared.Dated.{Dated}
 use Rattle.rules.specs.Meaning.{Meaning}
-use Rattle.rows.specs.Rows.{allowed, shareOf}
+use Rattle.rows.specs.Rows.{shareOf}
 use Rattle.issuing.specs.declared.Standing.{Standing}
 use Rattle.issuing.specs.First.{firstWhere, unlessFound}
 use Rattle.issuing.specs.InForce.{isEnded, needsHolder, supplierOf, rowOf, spoiledHolder, spoiledRow}
@@ -56,6 +56,10 @@ standingChecked k room day rest =
 abbrev pub supplierOn : Standing → List (Dated ℕ) → ℕ → ℕ → Option ℕ
 supplierOn k holders day place = supplierOf (take (k .holders) holders) (isEnded (k .ended) day) day place
 
+-- the same, 0 for none
+abbrev pub holderOn : Standing → List (Dated ℕ) → ℕ → ℕ → ℕ
+holderOn k holders day place = valueOr (supplierOn k holders day place) 0
+
 -- the row that splits a period of a day, if there is one
 abbrev pub rowOn : Standing → List (Dated AllocationRow) → ℕ → ℕ → Option AllocationRow
 rowOn k rows day period = rowOf (take (k .rows) rows) (isEnded (k .ended) day) day period
@@ -89,10 +93,10 @@ module _ (m : Meaning) (t : Terms) (k : Standing) (holders : List (Dated ℕ)) (
       standingChecked k room day (
       completeChecked t k holders readings day rest))))
 
-  -- the slot of a place in a day's period as it is to be: its holder, 0 for none, and its share
+  -- the slot of a place in a day's period as it is to be: its holder and its share
   abbrev pub nextSlot : ℕ → ℕ → ℕ → Slot
   nextSlot day period place =
-      record { supplier = valueOr (supplierOn k holders day place) 0; volume = shareOf m t (rowOn k rows day period) period (readingAt readings day period .kwh) place }
+      record { supplier = holderOn k holders day place; volume = shareOf m t (rowOn k rows day period) period (readingAt readings day period .kwh) place }
 
   -- the lines of a day, by period and then by place
   abbrev pub dayLines : List Slot → ℕ → ℕ → List Line

@@ -2,9 +2,15 @@
 use mathlib.Core.List.{List, _++_}
 use Prim.Native.Nat.{ℕ, zero, suc, _+_, _*_}
 use lib.ListN.{length, set, take, drop}
+use lib.IntN.{ℤ}
+use Rattle.domain.specs.Lines.{lineOf}
 use Rattle.domain.specs.declared.Line.{Line}
 use Rattle.domain.specs.declared.Slot.{Slot}
+use Rattle.issuing.specs.declared.lines.Heading.{Heading}
 
+-- the line under a heading
+abbrev pub headed : Heading → ℕ → ℤ → Line
+headed h = lineOf (h .day) (h .run) (h .period) (h .place)
 
 -- a journal with the lines ls from `at` on
 unfoldable pub posted : List Line → ℕ → List Line → List Line
