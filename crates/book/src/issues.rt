@@ -1,11 +1,11 @@
 // Issuing a day.
 ghost use mathlib.Core.Path.{_≡_};
+ghost use Prim.Native.Nat.{_+_, _<_, _≤_};
 ghost use lib.ListN.{length};
+ghost use Rattle.std.specs.Vec.{made};
 ghost use Rattle.domain.specs.Checks.{settled};
-ghost use Rattle.issuing.specs.Posted.{posted};
-ghost use Rattle.issuing.specs.Issue.{issueAnswer, issuedAfter, dayLines};
 ghost use Rattle.book.specs.Kept.{kept, isClosed};
-ghost use Rattle.book.specs.Issues.{standingOf, afterIssue};
+ghost use Rattle.book.specs.Issues.{standingOf, afterIssue, issueVerdict, slotsIssued, journalSent};
 use domain::AllocationRow;
 use domain::Fault;
 use domain::Line;
@@ -31,21 +31,40 @@ impl<R: Rule> Book<R> {
         day: u16,
         run: u8,
     ) -> Result<usize, Fault>
-        ensures answer { λ r. ⌜ r ≡ issueAnswer (R·Rule .meaning (now (self .entry) .rule)) (now (self .entry) .terms) (standingOf (kept (now (self .entry))) day) (now (holders .entry)) (now (rows .entry)) (now (readings .entry)) (now (issued .entry)) (length (now (journal .entry))) day run ⌝ }
-        ensures issued { λ r. ⌜ now (issued .exit) ≡ settled r (issuedAfter (R·Rule .meaning (now (self .entry) .rule)) (now (self .entry) .terms) (standingOf (kept (now (self .entry))) day) (now (holders .entry)) (now (rows .entry)) (now (readings .entry)) (now (issued .entry)) day) (now (issued .entry)) ⌝ }
-        ensures journal { λ r. ⌜ now (journal .exit) ≡ settled r (posted (now (journal .entry)) (now (self .entry) .lines) (dayLines (R·Rule .meaning (now (self .entry) .rule)) (now (self .entry) .terms) (standingOf (kept (now (self .entry))) day) (now (holders .entry)) (now (rows .entry)) (now (readings .entry)) (now (issued .entry)) day run)) (now (journal .entry)) ⌝ }
+        ensures answer { λ r. ⌜ r ≡ issueVerdict (R·Rule .meaning (now (self .entry) .rule)) (now (self .entry) .terms) (kept (now (self .entry))) (now (holders .entry)) (now (rows .entry)) (now (readings .entry)) (now (issued .entry)) (now (journal .entry)) day run ⌝ }
+        ensures issued { λ r. ⌜ now (issued .exit) ≡ settled r (slotsIssued (R·Rule .meaning (now (self .entry) .rule)) (now (self .entry) .terms) (kept (now (self .entry))) (now (holders .entry)) (now (rows .entry)) (now (readings .entry)) (now (issued .entry)) (now (journal .entry)) day run) (now (issued .entry)) ⌝ }
+        ensures journal { λ r. ⌜ now (journal .exit) ≡ settled r (journalSent (R·Rule .meaning (now (self .entry) .rule)) (now (self .entry) .terms) (kept (now (self .entry))) (now (holders .entry)) (now (rows .entry)) (now (readings .entry)) (now (issued .entry)) (now (journal .entry)) day run) (now (journal .entry)) ⌝ }
         ensures keeps { λ r. ⌜ kept (now (self .exit)) ≡ afterIssue r day run (kept (now (self .entry))) ⌝ }
         ensures same { λ _. ⌜ (now (self .exit) .terms ≡ now (self .entry) .terms) × (now (self .exit) .rule ≡ now (self .entry) .rule) ⌝ }
     {
-        let standing = self.standing(day);
-        let sent = issuing::issue(
-            &self.rule, self.terms, standing, holders, rows, readings, issued, journal, day, run,
-        )?;
+        let sent = self.send(holders, rows, readings, issued, journal, day, run)?;
         self.lines += sent;
         if run == FINAL {
             self.closed[usize::from(day)] = true;
         }
         Ok(sent)
+    }
+
+    // Sends the lines, and fills the slots of the day.
+    fn send(
+        &self,
+        holders: &[Dated<u16>],
+        rows: &[Dated<AllocationRow>],
+        readings: &[Reading],
+        issued: &mut [Slot],
+        journal: &mut [Line],
+        day: u16,
+        run: u8,
+    ) -> Result<usize, Fault>
+        ensures answer { λ r. ⌜ r ≡ issueVerdict (R·Rule .meaning (now (self .entry) .rule)) (now (self .entry) .terms) (kept (now (self .entry))) (now (holders .entry)) (now (rows .entry)) (now (readings .entry)) (now (issued .entry)) (now (journal .entry)) day run ⌝ }
+        ensures issued { λ r. ⌜ now (issued .exit) ≡ settled r (slotsIssued (R·Rule .meaning (now (self .entry) .rule)) (now (self .entry) .terms) (kept (now (self .entry))) (now (holders .entry)) (now (rows .entry)) (now (readings .entry)) (now (issued .entry)) (now (journal .entry)) day run) (now (issued .entry)) ⌝ }
+        ensures journal { λ r. ⌜ now (journal .exit) ≡ settled r (journalSent (R·Rule .meaning (now (self .entry) .rule)) (now (self .entry) .terms) (kept (now (self .entry))) (now (holders .entry)) (now (rows .entry)) (now (readings .entry)) (now (issued .entry)) (now (journal .entry)) day run) (now (journal .entry)) ⌝ }
+        ensures room { λ r. ⌜ made r (λ sent. (day < 62) × (now (self .entry) .lines + sent ≤ length (now (journal .entry)))) ⌝ }
+    {
+        let standing = self.standing(day);
+        issuing::issue(
+            &self.rule, self.terms, standing, holders, rows, readings, issued, journal, day, run,
+        )
     }
 
     // What the book knows of itself when it issues a day.
@@ -64,7 +83,9 @@ impl<R: Rule> Book<R> {
     fn is_closed(&self, day: u16) -> bool
         ensures { λ r. ⌜ r ≡ isClosed (kept (now (self .entry))) day ⌝ }
     {
-        let day = usize::from(day);
-        day < self.closed.len() && self.closed[day]
+        match self.closed.get(usize::from(day)) {
+            Some(closed) => *closed,
+            None => false,
+        }
     }
 }
