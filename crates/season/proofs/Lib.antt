@@ -4,3 +4,4 @@ pub mod Issues
 pub mod Runs
 pub mod Agrees
 pub mod Writings
+pub mod Turns

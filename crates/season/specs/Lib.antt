@@ -3,3 +3,4 @@ pub mod Law
 pub mod Sound
 pub mod Granted
 pub mod Steps
+pub mod Outcomes

@@ -3,7 +3,7 @@ use denote.Ref.{now}
 use mathlib.Core.Bool.{Bool, true, false}
 use mathlib.Core.List.{List, [], _∷_}
 use Prim.Native.Nat.{ℕ}
-use lib.ListN.{length, take}
+use lib.ListN.{take}
 use Rattle.std.specs.Iters.{folded}
 use Rattle.std.specs.declared.result.Result.{Result}
 use Rattle.std.specs.declared.result.Result.the-variants.{Ok, Err}
@@ -17,12 +17,10 @@ use Rattle.domain.specs.declared.terms.Terms.{Terms}
 use Rattle.rules.specs.Meaning.{Meaning}
 use Rattle.history.specs.declared.Dated.{Dated}
 use Rattle.history.specs.Puts.{putOne, putDay, holdingIf}
-use Rattle.issuing.specs.Posted.{posted}
-use Rattle.issuing.specs.Issue.{dayLines, issuedAfter, issueAnswer}
 use Rattle.book.specs.Kept.{Kept}
 use Rattle.book.specs.Readings.{readingAnswer, withReading}
 use Rattle.book.specs.Sharing.{holding, registerRoom, withHolders, scheduleRoom, withRows, endAnswer, endedFrom}
-use Rattle.book.specs.Issues.{standingOf, afterIssue}
+use Rattle.book.specs.Issues.{afterIssue, issueVerdict, slotsIssued, journalSent}
 use Rattle.season.specs.declared.Call.{Call}
 use Rattle.season.specs.declared.Call.the-variants as call
 
@@ -57,8 +55,7 @@ module _ (t : Terms) (m : Meaning) where
 
   -- an issue, and how many lines it sent
   abbrev pub issued : State → ℕ → ℕ → Result ℕ Fault
-  issued st day run =
-      issueAnswer m t (standingOf (st .kept) day) (st .holders) (st .rows) (st .readings) (st .issued) (length (st .journal)) day run
+  issued st day run = issueVerdict m t (st .kept) (st .holders) (st .rows) (st .readings) (st .issued) (st .journal) day run
 
   -- the call was accepted
   abbrev pub accepts : State → Call → Bool
@@ -93,8 +90,8 @@ module _ (t : Terms) (m : Meaning) where
   step st (call.Issue day run) = record {
     kept = afterIssue (issued st day run) day run (st .kept);
     holders = st .holders; rows = st .rows; readings = st .readings;
-    issued = settled (issued st day run) (issuedAfter m t (standingOf (st .kept) day) (st .holders) (st .rows) (st .readings) (st .issued) day) (st .issued);
-    journal = settled (issued st day run) (posted (st .journal) (st .kept .lines) (dayLines m t (standingOf (st .kept) day) (st .holders) (st .rows) (st .readings) (st .issued) day run)) (st .journal);
+    issued = settled (issued st day run) (slotsIssued m t (st .kept) (st .holders) (st .rows) (st .readings) (st .issued) (st .journal) day run) (st .issued);
+    journal = settled (issued st day run) (journalSent m t (st .kept) (st .holders) (st .rows) (st .readings) (st .issued) (st .journal) day run) (st .journal);
   }
 
   -- the calls one after the other

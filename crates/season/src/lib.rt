@@ -1,6 +1,40 @@
 // A season: a list of calls, run one after the other on one book.
 ghost use Rattle.season.specs.Granted.{LinesAddUp};
+ghost use mathlib.Core.Path.{_≡_};
+ghost use Rattle.book.specs.Kept.{kept};
+ghost use Rattle.season.specs.Steps.{step};
+ghost use Rattle.season.specs.Outcomes.{doneBy, outcome, stateOf};
+use book::Book;
 use domain::AllocationRow;
+use domain::Fault;
+use domain::Line;
+use domain::Reading;
+use domain::Slot;
+use history::Dated;
+use rules::Rule;
+
+// What came of a call.
+#[derive(Clone, Copy)]
+pub enum Outcome {
+    // a register, a reading or an end that was accepted
+    Done,
+    // a schedule that was accepted, with its notice
+    Scheduled { notice: [u8; 16] },
+    // an issue that was accepted, with the number of lines that it sent
+    Issued { lines: usize },
+    Refused { fault: Fault },
+}
+
+impl Outcome {
+    fn of(result: Result<(), Fault>) -> Outcome
+        ensures { λ r. ⌜ r ≡ doneBy result ⌝ }
+    {
+        match result {
+            Ok(()) => Outcome::Done,
+            Err(fault) => Outcome::Refused { fault },
+        }
+    }
+}
 
 // A call of the book that changes something.
 #[derive(Clone, Copy)]
@@ -37,3 +71,54 @@ pub enum Call<'a> {
 pub fn lines_add_up()
     ensures { λ _. ⌜ LinesAddUp ⌝ }
 {}
+
+// Does what a call says on a book and its tables, and says what came of it.
+fn apply<R: Rule>(
+    book: &mut Book<R>,
+    holders: &mut [Dated<u16>],
+    rows: &mut [Dated<AllocationRow>],
+    readings: &mut [Reading],
+    issued: &mut [Slot],
+    journal: &mut [Line],
+    call: &Call<'_>,
+) -> Outcome
+    ensures answer { λ r. ⌜ r ≡ outcome (now (book .entry) .terms) (R·Rule .meaning (now (book .entry) .rule)) (stateOf (kept (now (book .entry))) (now (holders .entry)) (now (rows .entry)) (now (readings .entry)) (now (issued .entry)) (now (journal .entry))) (now (call .entry)) ⌝ }
+    ensures after { λ _. ⌜ (stateOf (kept (now (book .exit))) (now (holders .exit)) (now (rows .exit)) (now (readings .exit)) (now (issued .exit)) (now (journal .exit))) ≡ step (now (book .entry) .terms) (R·Rule .meaning (now (book .entry) .rule)) (stateOf (kept (now (book .entry))) (now (holders .entry)) (now (rows .entry)) (now (readings .entry)) (now (issued .entry)) (now (journal .entry))) (now (call .entry)) ⌝ }
+    ensures same { λ _. ⌜ (now (book .exit) .terms ≡ now (book .entry) .terms) × (now (book .exit) .rule ≡ now (book .entry) .rule) ⌝ }
+{
+    match call {
+        Call::Register {
+            place,
+            day,
+            supplier,
+        } => Outcome::of(book.register(holders, *place, *day, *supplier)),
+        Call::Schedule {
+            sender,
+            day,
+            moment,
+            rows: schedule,
+        } => match book.schedule(holders, rows, *sender, *day, *moment, schedule) {
+            Ok(receipt) => Outcome::Scheduled {
+                notice: receipt.confirm(),
+            },
+            Err(fault) => Outcome::Refused { fault },
+        },
+        Call::Reading {
+            day,
+            period,
+            quality,
+            kwh,
+        } => Outcome::of(book.reading(readings, *day, *period, *quality, *kwh)),
+        Call::End {
+            sender,
+            day,
+            moment,
+        } => Outcome::of(book.end(holders, *sender, *day, *moment)),
+        Call::Issue { day, run } => {
+            match book.issue(holders, rows, readings, issued, journal, *day, *run) {
+                Ok(lines) => Outcome::Issued { lines },
+                Err(fault) => Outcome::Refused { fault },
+            }
+        }
+    }
+}
