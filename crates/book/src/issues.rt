@@ -6,6 +6,7 @@ ghost use Rattle.std.specs.Vec.{made};
 ghost use Rattle.domain.specs.Checks.{settled};
 ghost use Rattle.book.specs.Kept.{kept, isClosed};
 ghost use Rattle.book.specs.Issues.{standingOf, afterIssue, issueVerdict, slotsIssued, journalSent};
+use super::Book;
 use domain::AllocationRow;
 use domain::Fault;
 use domain::Line;
@@ -14,7 +15,6 @@ use domain::Slot;
 use history::Dated;
 use issuing::Standing;
 use rules::Rule;
-use super::Book;
 
 // The run that closes its day, Final Reconciliation.
 const FINAL: u8 = 2;
@@ -63,7 +63,16 @@ impl<R: Rule> Book<R> {
     {
         let standing = self.standing(day);
         issuing::issue(
-            &self.rule, self.terms, standing, holders, rows, readings, issued, journal, day, run,
+            &self.rule,
+            self.terms,
+            standing,
+            holders,
+            rows,
+            readings,
+            issued,
+            journal,
+            day,
+            run,
         )
     }
 

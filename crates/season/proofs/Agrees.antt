@@ -103,10 +103,10 @@ module _ {T : Type 0} (entries h : List (Dated T)) (table : Table) (count n : �
       ⊎-elim
       (λ (over : ltb (length entries) count ≡ true). let f = sym (cond-true (ltb (length entries) count) (Err (Spoiled table)) (cond (ltb (length entries) (length h)) (Err (HistoryFull (length h))) (Ok (length h))) over) ∙ e in let z : _≡_ {A = ℕ} 0 1 = cc in absurd (omega arith))
       (λ (held : ltb (length entries) count ≡ false).
-        ⊎-elim
-        (λ (over : ltb (length entries) (length h) ≡ true). let f = sym (cond-true (ltb (length entries) (length h)) (Err (HistoryFull (length h))) (Ok (length h)) over) ∙ (sym (cond-false (ltb (length entries) count) (Err (Spoiled table)) (cond (ltb (length entries) (length h)) (Err (HistoryFull (length h))) (Ok (length h))) held) ∙ e) in let z : _≡_ {A = ℕ} 0 1 = cc in absurd (omega arith))
-        (λ (fits : ltb (length entries) (length h) ≡ false). let f : _≡_ {A = Result ℕ Fault} (Ok (length h)) (Ok n) = sym (cond-false (ltb (length entries) (length h)) (Err (HistoryFull (length h))) (Ok (length h)) fits) ∙ (sym (cond-false (ltb (length entries) count) (Err (Spoiled table)) (cond (ltb (length entries) (length h)) (Err (HistoryFull (length h))) (Ok (length h))) held) ∙ e) in (cc, ltb-false (length entries) (length h) fits))
-        (cases-bool (ltb (length entries) (length h))))
+      ⊎-elim
+      (λ (over : ltb (length entries) (length h) ≡ true). let f = sym (cond-true (ltb (length entries) (length h)) (Err (HistoryFull (length h))) (Ok (length h)) over) ∙ (sym (cond-false (ltb (length entries) count) (Err (Spoiled table)) (cond (ltb (length entries) (length h)) (Err (HistoryFull (length h))) (Ok (length h))) held) ∙ e) in let z : _≡_ {A = ℕ} 0 1 = cc in absurd (omega arith))
+      (λ (fits : ltb (length entries) (length h) ≡ false). let f : _≡_ {A = Result ℕ Fault} (Ok (length h)) (Ok n) = sym (cond-false (ltb (length entries) (length h)) (Err (HistoryFull (length h))) (Ok (length h)) fits) ∙ (sym (cond-false (ltb (length entries) count) (Err (Spoiled table)) (cond (ltb (length entries) (length h)) (Err (HistoryFull (length h))) (Ok (length h))) held) ∙ e) in (cc, ltb-false (length entries) (length h) fits))
+      (cases-bool (ltb (length entries) (length h))))
       (cases-bool (ltb (length entries) count))
 
   pub length-holding : length h ≤ length entries → length (holding h entries) ≡ length entries
@@ -124,10 +124,13 @@ module _ (t : Terms) (m : Meaning) (st : State) (b : Plain) (h : Agrees t st b) 
         ∙ ap (λ (o : Option ℕ). cond (eqb place q && eqb day d) (Some supplier) o) (h .registered q d)
 
     pub agrees-register : (r : Result ℕ Fault) → r ≡ registered t m st place day supplier → Agrees t (record {
-        kept = sharing.withHolders r (st .kept);
-        holders = holdingIf r held (st .holders);
-        rows = st .rows; readings = st .readings; issued = st .issued; journal = st .journal;
-      }) (plainStep t m b (call.Register place day supplier) (isOk r))
+      kept = sharing.withHolders r (st .kept);
+      holders = holdingIf r held (st .holders);
+      rows = st .rows;
+      readings = st .readings;
+      issued = st .issued;
+      journal = st .journal;
+    }) (plainStep t m b (call.Register place day supplier) (isOk r))
     agrees-register (Err f) e = h
     agrees-register (Ok n) e =
         let a = unless-ok (isPlace t place) (ArgumentOutsideLimits 1) _ n (sym e) in
@@ -164,21 +167,21 @@ module _ (t : Terms) (m : Meaning) (st : State) (b : Plain) (h : Agrees t st b) 
         let said = keyed-day (take periods rows) (take (st .kept .rows) (st .rows)) day 1 p d ∙ ap (λ (xs : List AllocationRow). orElse (cond (eqb d day && leb 1 p) (nth xs (p - 1)) None) before) all in
         ⊎-elim
         (λ (e : d ≡ day).
-          let yes = eq-eqb d day e in
-          let one : leb 1 p ≡ true = grind (arith, tells) in
-          let some = nth-getD rows (p - 1) (record { method = 0; balance = 0; nominations = [] }) (slot-below p (length rows) long within) in
-          said
-          ∙ ap (λ (c : Bool). orElse (cond (c && leb 1 p) (nth rows (p - 1)) None) before) yes
-          ∙ ap (λ (c : Bool). orElse (cond c (nth rows (p - 1)) None) before) one
-          ∙ ap (λ (o : Option AllocationRow). orElse o before) some
-          ∙ sym some
-          ∙ sym (ap (λ (c : Bool). rowOf p (cond c (Some rows) (b .scheduled d))) yes))
+        let yes = eq-eqb d day e in
+        let one : leb 1 p ≡ true = grind (arith, tells) in
+        let some = nth-getD rows (p - 1) (record { method = 0; balance = 0; nominations = [] }) (slot-below p (length rows) long within) in
+        said
+        ∙ ap (λ (c : Bool). orElse (cond (c && leb 1 p) (nth rows (p - 1)) None) before) yes
+        ∙ ap (λ (c : Bool). orElse (cond c (nth rows (p - 1)) None) before) one
+        ∙ ap (λ (o : Option AllocationRow). orElse o before) some
+        ∙ sym some
+        ∙ sym (ap (λ (c : Bool). rowOf p (cond c (Some rows) (b .scheduled d))) yes))
         (λ (e : d ≡ day → ⊥).
-          let other = ne-eqb d day e in
-          said
-          ∙ ap (λ (c : Bool). orElse (cond (c && leb 1 p) (nth rows (p - 1)) None) before) other
-          ∙ h .scheduled p d within
-          ∙ sym (ap (λ (c : Bool). rowOf p (cond c (Some rows) (b .scheduled d))) other))
+        let other = ne-eqb d day e in
+        said
+        ∙ ap (λ (c : Bool). orElse (cond (c && leb 1 p) (nth rows (p - 1)) None) before) other
+        ∙ h .scheduled p d within
+        ∙ sym (ap (λ (c : Bool). rowOf p (cond c (Some rows) (b .scheduled d))) other))
         (cases-eq d day)
 
     -- and each schedule that was accepted has a row for each period
@@ -189,11 +192,13 @@ module _ (t : Terms) (m : Meaning) (st : State) (b : Plain) (h : Agrees t st b) 
         (λ other e. h .full d xs e)
 
     pub agrees-schedule : (r : Result ℕ Fault) → r ≡ scheduled t m st sender day moment (now lent) → Agrees t (record {
-        kept = sharing.withRows r (st .kept);
-        holders = st .holders;
-        rows = holdingIf r laid (st .rows);
-        readings = st .readings; issued = st .issued; journal = st .journal;
-      }) (plainStep t m b (call.Schedule sender day moment lent) (isOk r))
+      kept = sharing.withRows r (st .kept);
+      holders = st .holders;
+      rows = holdingIf r laid (st .rows);
+      readings = st .readings;
+      issued = st .issued;
+      journal = st .journal;
+    }) (plainStep t m b (call.Schedule sender day moment lent) (isOk r))
     agrees-schedule (Err f) e = h
     agrees-schedule (Ok n) e =
         let a = then-ok (sharing.scheduleAdmit m t (st .kept) (st .holders) (st .rows) sender day moment (now lent)) (λ _. roomFor (st .rows) Rows (st .kept .rows) laid) n (sym e) in
@@ -228,18 +233,21 @@ module _ (t : Terms) (m : Meaning) (st : State) (b : Plain) (h : Agrees t st b) 
         let P : Reading → Type 0 = λ r. ReadAs r (b .read d p) in
         cond-both (eqb day d && eqb period p) (Some kwh) (b .read d p) (λ o. ReadAs (readingAt (withReading old day period quality kwh) d p) o)
         (λ hits.
-          let both = and-parts (eqb day d) (eqb period p) hits in
-          let slot : readingSlot d p ≡ readingSlot day period = omega (arith, eqb-true day d (both .0), eqb-true period p (both .1)) in
-          ap (λ (i : ℕ). getD (set old (readingSlot day period) new) i noReading .kwh) slot ∙ ap (λ (r : Reading). r .kwh) (getD-set-same old (readingSlot day period) new noReading (slot-within t day period (length old) (h .readingsSize) isd isp)))
+        let both = and-parts (eqb day d) (eqb period p) hits in
+        let slot : readingSlot d p ≡ readingSlot day period = omega (arith, eqb-true day d (both .0), eqb-true period p (both .1)) in
+        ap (λ (i : ℕ). getD (set old (readingSlot day period) new) i noReading .kwh) slot ∙ ap (λ (r : Reading). r .kwh) (getD-set-same old (readingSlot day period) new noReading (slot-within t day period (length old) (h .readingsSize) isd isp)))
         (λ misses.
-          let apart : readingSlot d p ≡ readingSlot day period → ⊥ = λ e. slot-apart day period d p isp isp′ misses e in
-          subst P (sym (getD-set-other old (readingSlot day period) (readingSlot d p) new noReading apart)) (h .read d p isd′ isp′))
+        let apart : readingSlot d p ≡ readingSlot day period → ⊥ = λ e. slot-apart day period d p isp isp′ misses e in
+        subst P (sym (getD-set-other old (readingSlot day period) (readingSlot d p) new noReading apart)) (h .read d p isd′ isp′))
 
     pub agrees-reading : (r : Result Unit Fault) → r ≡ read t m st day period quality kwh → Agrees t (record {
-        kept = st .kept; holders = st .holders; rows = st .rows;
-        readings = settled r (withReading (st .readings) day period quality kwh) (st .readings);
-        issued = st .issued; journal = st .journal;
-      }) (plainStep t m b (call.Reading day period quality kwh) (isOk r))
+      kept = st .kept;
+      holders = st .holders;
+      rows = st .rows;
+      readings = settled r (withReading (st .readings) day period quality kwh) (st .readings);
+      issued = st .issued;
+      journal = st .journal;
+    }) (plainStep t m b (call.Reading day period quality kwh) (isOk r))
     agrees-reading (Err f) e = h
     agrees-reading (Ok x) e =
         let a = unless-ok (isDay t day) (ArgumentOutsideLimits 1) _ x (sym e) in
@@ -261,9 +269,13 @@ module _ (t : Terms) (m : Meaning) (st : State) (b : Plain) (h : Agrees t st b) 
 
   module _ (sender day moment : ℕ) where
     pub agrees-end : (r : Result Unit Fault) → r ≡ ended t m st sender day moment → Agrees t (record {
-        kept = settled r (sharing.endedFrom day (st .kept)) (st .kept);
-        holders = st .holders; rows = st .rows; readings = st .readings; issued = st .issued; journal = st .journal;
-      }) (plainStep t m b (call.End sender day moment) (isOk r))
+      kept = settled r (sharing.endedFrom day (st .kept)) (st .kept);
+      holders = st .holders;
+      rows = st .rows;
+      readings = st .readings;
+      issued = st .issued;
+      journal = st .journal;
+    }) (plainStep t m b (call.End sender day moment) (isOk r))
     agrees-end (Err f) e = h
     agrees-end (Ok x) e = record {
       holdersRoom = h .holdersRoom;

@@ -47,23 +47,25 @@ module _ (t : Terms) (m : Meaning) (st : State) (b : Plain) (h : Agrees t st b) 
       let wrote : ℕ → Option Written = λ x. cond (isPeriod x) (Some (writes t m b day x)) (b .written day x) in
       ⊎-elim
       (λ (e : d ≡ day).
-        ap (λ (x : ℕ). slotAt t new x p q) e
-        ∙ after-here m t k (st .holders) (st .rows) (st .readings) (st .issued) day (g .isDay) (h .issuedSize) p q least most within
-        ∙ next-is t m st b h day run g p isp q
-        ∙ sym (ap (λ (c : Bool). slotOf (cond c (Some (writes t m b day p)) (b .written day p)) q) isp)
-        ∙ sym (ap (λ (c : Bool). slotOf (cond c wrote (b .written d) p) q) (eq-eqb d day e)))
+      ap (λ (x : ℕ). slotAt t new x p q) e
+      ∙ after-here m t k (st .holders) (st .rows) (st .readings) (st .issued) day (g .isDay) (h .issuedSize) p q least most within
+      ∙ next-is t m st b h day run g p isp q
+      ∙ sym (ap (λ (c : Bool). slotOf (cond c (Some (writes t m b day p)) (b .written day p)) q) isp)
+      ∙ sym (ap (λ (c : Bool). slotOf (cond c wrote (b .written d) p) q) (eq-eqb d day e)))
       (λ (e : d ≡ day → ⊥).
-        after-other m t k (st .holders) (st .rows) (st .readings) (st .issued) day d p q e least most within
-        ∙ h .slots d p q isd isp within
-        ∙ sym (ap (λ (c : Bool). slotOf (cond c wrote (b .written d) p) q) (ne-eqb d day e)))
+      after-other m t k (st .holders) (st .rows) (st .readings) (st .issued) day d p q e least most within
+      ∙ h .slots d p q isd isp within
+      ∙ sym (ap (λ (c : Bool). slotOf (cond c wrote (b .written d) p) q) (ne-eqb d day e)))
       (cases-eq d day)
 
   pub agrees-issue : (r : Result ℕ Fault) → r ≡ issued t m st day run → Agrees t (record {
-      kept = afterIssue r day run (st .kept);
-      holders = st .holders; rows = st .rows; readings = st .readings;
-      issued = settled r (slotsIssued m t (st .kept) (st .holders) (st .rows) (st .readings) (st .issued) (st .journal) day run) (st .issued);
-      journal = settled r (journalSent m t (st .kept) (st .holders) (st .rows) (st .readings) (st .issued) (st .journal) day run) (st .journal);
-    }) (plainStep t m b (call.Issue day run) (isOk r))
+    kept = afterIssue r day run (st .kept);
+    holders = st .holders;
+    rows = st .rows;
+    readings = st .readings;
+    issued = settled r (slotsIssued m t (st .kept) (st .holders) (st .rows) (st .readings) (st .issued) (st .journal) day run) (st .issued);
+    journal = settled r (journalSent m t (st .kept) (st .holders) (st .rows) (st .readings) (st .issued) (st .journal) day run) (st .journal);
+  }) (plainStep t m b (call.Issue day run) (isOk r))
   unfolding issueVerdict slotsIssued journalSent
   agrees-issue (Err f) e = h
   agrees-issue (Ok n) e =

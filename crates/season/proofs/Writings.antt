@@ -126,9 +126,9 @@ module _ (t : Terms) (m : Meaning) (st : State) (b : Plain) (h : Agrees t st b) 
       let kwh = readingAt (st .readings) day p .kwh in
       let row = rowOn k (st .rows) day p in
       let share : shareOf m t row p kwh q ≡ sharesOf t m (inUse b day p) p (valueOr (b .read day p) 0) q =
-            share-is t m row p kwh q within (few p within) (g .soundRow p (least p within) (most p within))
-            ∙ ap (λ (r : Option AllocationRow). sharesOf t m r p kwh q) (row-is p within)
-            ∙ ap (λ (e : ℕ). sharesOf t m (inUse b day p) p e q) (kwh-is p within) in
+      share-is t m row p kwh q within (few p within) (g .soundRow p (least p within) (most p within))
+      ∙ ap (λ (r : Option AllocationRow). sharesOf t m r p kwh q) (row-is p within)
+      ∙ ap (λ (e : ℕ). sharesOf t m (inUse b day p) p e q) (kwh-is p within) in
       ap (λ (o : Option ℕ). slotWith (valueOr o 0) (shareOf m t row p kwh q)) (holder-is q)
       ∙ ap (λ (z : ℤ). slotWith (valueOr (holds b day q) 0) z) share
 
@@ -136,11 +136,11 @@ module _ (t : Terms) (m : Meaning) (st : State) (b : Plain) (h : Agrees t st b) 
   pub lines-are : dayLines m t k (st .holders) (st .rows) (st .readings) (st .issued) day run ≡ issueLines t m b day run
   lines-are =
       gathered-same _ _ periods (λ i here.
-        let within = period-of i here in
-        gathered-same _ _ (t .places) (λ q there.
-          ap (λ (p : ℕ). slotLines (lineOf day run p q) (slotAt t (st .issued) day p q) (nextSlot m t k (st .holders) (st .rows) (st .readings) day p q)) (add-one i)
-          ∙ ap (λ (s : Slot). slotLines (lineOf day run (suc i) q) s (nextSlot m t k (st .holders) (st .rows) (st .readings) day (suc i) q)) (h .slots day (suc i) q this-day within there)
-          ∙ ap (λ (s : Slot). slotLines (lineOf day run (suc i) q) (slotOf (b .written day (suc i)) q) s) (next-is (suc i) within q)))
+      let within = period-of i here in
+      gathered-same _ _ (t .places) (λ q there.
+      ap (λ (p : ℕ). slotLines (lineOf day run p q) (slotAt t (st .issued) day p q) (nextSlot m t k (st .holders) (st .rows) (st .readings) day p q)) (add-one i)
+      ∙ ap (λ (s : Slot). slotLines (lineOf day run (suc i) q) s (nextSlot m t k (st .holders) (st .rows) (st .readings) day (suc i) q)) (h .slots day (suc i) q this-day within there)
+      ∙ ap (λ (s : Slot). slotLines (lineOf day run (suc i) q) (slotOf (b .written day (suc i)) q) s) (next-is (suc i) within q)))
 
   -- a place needs a holder, and from the end day on place 0 does
   needs : (q : ℕ) → (hasEnded (b .ended) day ≡ true → q ≡ 0) → force.needsHolder (force.isEnded (st .kept .ended) day) q ≡ true

@@ -70,26 +70,40 @@ module _ (t : Terms) (m : Meaning) where
   step st (call.Register place day supplier) = record {
     kept = withHolders (registered st place day supplier) (st .kept);
     holders = holdingIf (registered st place day supplier) (putOne (take (st .kept .holders) (st .holders)) (holding place day supplier)) (st .holders);
-    rows = st .rows; readings = st .readings; issued = st .issued; journal = st .journal;
+    rows = st .rows;
+    readings = st .readings;
+    issued = st .issued;
+    journal = st .journal;
   }
   step st (call.Schedule sender day moment rows) = record {
     kept = withRows (scheduled st sender day moment (now rows)) (st .kept);
     holders = st .holders;
     rows = holdingIf (scheduled st sender day moment (now rows)) (putDay (take (st .kept .rows) (st .rows)) day (now rows)) (st .rows);
-    readings = st .readings; issued = st .issued; journal = st .journal;
+    readings = st .readings;
+    issued = st .issued;
+    journal = st .journal;
   }
   step st (call.Reading day period quality kwh) = record {
-    kept = st .kept; holders = st .holders; rows = st .rows;
+    kept = st .kept;
+    holders = st .holders;
+    rows = st .rows;
     readings = settled (read st day period quality kwh) (withReading (st .readings) day period quality kwh) (st .readings);
-    issued = st .issued; journal = st .journal;
+    issued = st .issued;
+    journal = st .journal;
   }
   step st (call.End sender day moment) = record {
     kept = settled (ended st sender day moment) (endedFrom day (st .kept)) (st .kept);
-    holders = st .holders; rows = st .rows; readings = st .readings; issued = st .issued; journal = st .journal;
+    holders = st .holders;
+    rows = st .rows;
+    readings = st .readings;
+    issued = st .issued;
+    journal = st .journal;
   }
   step st (call.Issue day run) = record {
     kept = afterIssue (issued st day run) day run (st .kept);
-    holders = st .holders; rows = st .rows; readings = st .readings;
+    holders = st .holders;
+    rows = st .rows;
+    readings = st .readings;
     issued = settled (issued st day run) (slotsIssued m t (st .kept) (st .holders) (st .rows) (st .readings) (st .issued) (st .journal) day run) (st .issued);
     journal = settled (issued st day run) (journalSent m t (st .kept) (st .holders) (st .rows) (st .readings) (st .issued) (st .journal) day run) (st .journal);
   }

@@ -3,7 +3,11 @@ ghost use Rattle.season.specs.Granted.{LinesAddUp};
 ghost use mathlib.Core.Path.{_≡_};
 ghost use Rattle.book.specs.Kept.{kept};
 ghost use Rattle.season.specs.Steps.{step};
-ghost use Rattle.season.specs.Outcomes.{doneBy, outcome, stateOf};
+ghost use lib.ListN.{take};
+ghost use Rattle.files.specs.Contents.{noticeOf};
+ghost use Rattle.history.specs.Puts.{putOne, putDay, holdingIf};
+ghost use Rattle.book.specs.Sharing.{holding, registerRoom, withHolders, scheduleRoom, withRows};
+ghost use Rattle.season.specs.Outcomes.{doneBy, scheduledBy, outcome, stateOf};
 use book::Book;
 use domain::AllocationRow;
 use domain::Fault;
@@ -91,18 +95,13 @@ fn apply<R: Rule>(
             place,
             day,
             supplier,
-        } => Outcome::of(book.register(holders, *place, *day, *supplier)),
+        } => register(book, holders, *place, *day, *supplier),
         Call::Schedule {
             sender,
             day,
             moment,
-            rows: schedule,
-        } => match book.schedule(holders, rows, *sender, *day, *moment, schedule) {
-            Ok(receipt) => Outcome::Scheduled {
-                notice: receipt.confirm(),
-            },
-            Err(fault) => Outcome::Refused { fault },
-        },
+            rows: schedule_rows,
+        } => schedule(book, holders, rows, *sender, *day, *moment, schedule_rows),
         Call::Reading {
             day,
             period,
@@ -120,5 +119,43 @@ fn apply<R: Rule>(
                 Err(fault) => Outcome::Refused { fault },
             }
         }
+    }
+}
+
+fn register<R: Rule>(
+    book: &mut Book<R>,
+    holders: &mut [Dated<u16>],
+    place: u8,
+    day: u16,
+    supplier: u16,
+) -> Outcome
+    ensures answer { λ r. ⌜ r ≡ doneBy (registerRoom (now (book .entry) .terms) (kept (now (book .entry))) (now (holders .entry)) place day supplier) ⌝ }
+    ensures holders { λ _. ⌜ now (holders .exit) ≡ holdingIf (registerRoom (now (book .entry) .terms) (kept (now (book .entry))) (now (holders .entry)) place day supplier) (putOne (take (kept (now (book .entry)) .holders) (now (holders .entry))) (holding place day supplier)) (now (holders .entry)) ⌝ }
+    ensures keeps { λ _. ⌜ kept (now (book .exit)) ≡ withHolders (registerRoom (now (book .entry) .terms) (kept (now (book .entry))) (now (holders .entry)) place day supplier) (kept (now (book .entry))) ⌝ }
+    ensures same { λ _. ⌜ (now (book .exit) .terms ≡ now (book .entry) .terms) × (now (book .exit) .rule ≡ now (book .entry) .rule) ⌝ }
+{
+    Outcome::of(book.register(holders, place, day, supplier))
+}
+
+// Confirms the receipt of an accepted schedule.
+fn schedule<R: Rule>(
+    book: &mut Book<R>,
+    holders: &[Dated<u16>],
+    rows: &mut [Dated<AllocationRow>],
+    sender: u16,
+    day: u16,
+    moment: u32,
+    schedule: &[AllocationRow],
+) -> Outcome
+    ensures answer { λ r. ⌜ r ≡ scheduledBy (scheduleRoom (R·Rule .meaning (now (book .entry) .rule)) (now (book .entry) .terms) (kept (now (book .entry))) (now (holders .entry)) (now (rows .entry)) sender day moment (now (schedule .entry))) (noticeOf day sender moment) ⌝ }
+    ensures rows { λ _. ⌜ now (rows .exit) ≡ holdingIf (scheduleRoom (R·Rule .meaning (now (book .entry) .rule)) (now (book .entry) .terms) (kept (now (book .entry))) (now (holders .entry)) (now (rows .entry)) sender day moment (now (schedule .entry))) (putDay (take (kept (now (book .entry)) .rows) (now (rows .entry))) day (now (schedule .entry))) (now (rows .entry)) ⌝ }
+    ensures keeps { λ _. ⌜ kept (now (book .exit)) ≡ withRows (scheduleRoom (R·Rule .meaning (now (book .entry) .rule)) (now (book .entry) .terms) (kept (now (book .entry))) (now (holders .entry)) (now (rows .entry)) sender day moment (now (schedule .entry))) (kept (now (book .entry))) ⌝ }
+    ensures same { λ _. ⌜ (now (book .exit) .terms ≡ now (book .entry) .terms) × (now (book .exit) .rule ≡ now (book .entry) .rule) ⌝ }
+{
+    match book.schedule(holders, rows, sender, day, moment, schedule) {
+        Ok(receipt) => Outcome::Scheduled {
+            notice: receipt.confirm(),
+        },
+        Err(fault) => Outcome::Refused { fault },
     }
 }
