@@ -5,3 +5,4 @@ pub mod Runs
 pub mod Agrees
 pub mod Writings
 pub mod Turns
+pub mod Replaying

@@ -4,3 +4,4 @@ pub mod Sound
 pub mod Granted
 pub mod Steps
 pub mod Outcomes
+pub mod Replays
