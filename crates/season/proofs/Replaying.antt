@@ -143,3 +143,27 @@ module _ {R : Type 0} (meaning : R → Meaning) (t : Terms) (rule : R) (st : Sta
       ∙ ap (λ (x : Outcome). front ++ (x ∷ drop (i + 1) old)) made
       ∙ sym (append-assoc front (outcome t m (run t m st (take i cs)) (getD cs i d) ∷ []) (drop (i + 1) old))
       ∙ ap (λ (x : List Outcome). x ++ drop (i + 1) old) (sym (ap (outcomes t m st) (take-more cs i d h) ∙ outcomes-push t m st (take i cs) (getD cs i d)))
+
+  -- the end of the loop, with terms, rule and start as they were given
+  module _ (tl : Terms) (rl : R) (from : State) (i n : ℕ) (f : tl ≡ t) (e : rl ≡ rule) (s : from ≡ st) (k : i ≡ n) where
+    pub end-state : (end : State) → end ≡ run tl (meaning rl) from (take i cs) → end ≡ run t (meaning rule) st (take n cs)
+    end-state end x =
+        x
+        ∙ ap (λ (y : Terms). run y (meaning rl) from (take i cs)) f
+        ∙ ap (λ (y : R). run t (meaning y) from (take i cs)) e
+        ∙ ap (λ (y : State). run t (meaning rule) y (take i cs)) s
+        ∙ ap (λ (y : ℕ). run t (meaning rule) st (take y cs)) k
+
+    pub end-outcomes : (came was : List Outcome) → n ≤ length cs → came ≡ outcomes tl (meaning rl) from (take i cs) ++ drop i was → came ≡ outcomes t (meaning rule) st (take n cs) ++ drop (length (take n cs)) was
+    end-outcomes came was within x =
+        x
+        ∙ ap (λ (y : Terms). outcomes y (meaning rl) from (take i cs) ++ drop i was) f
+        ∙ ap (λ (y : R). outcomes t (meaning y) from (take i cs) ++ drop i was) e
+        ∙ ap (λ (y : State). outcomes t (meaning rule) y (take i cs) ++ drop i was) s
+        ∙ ap (λ (y : ℕ). outcomes t (meaning rule) st (take y cs) ++ drop y was) k
+        ∙ ap (λ (y : ℕ). outcomes t (meaning rule) st (take n cs) ++ drop y was) (sym (length-take-le n cs within))
+
+-- before the first call there is no outcome
+pub no-outcomes : (t : Terms) (m : Meaning) (st : State) → outcomes t m st [] ≡ []
+unfolding outcomes
+no-outcomes t m st = refl

@@ -1,19 +1,23 @@
 // A season: a list of calls, run one after the other on one book.
 ghost use Rattle.season.specs.Granted.{LinesAddUp};
 ghost use mathlib.Core.Path.{_≡_};
-ghost use Rattle.book.specs.Kept.{kept};
+ghost use Rattle.book.specs.Kept.{kept, opened};
 ghost use Rattle.season.specs.Steps.{step};
 ghost use lib.ListN.{take};
 ghost use Rattle.files.specs.Contents.{noticeOf};
 ghost use Rattle.history.specs.Puts.{putOne, putDay, holdingIf};
-ghost use Rattle.book.specs.Sharing.{holding, registerRoom, withHolders, scheduleRoom, withRows};
-ghost use Rattle.season.specs.Outcomes.{doneBy, scheduledBy, outcome, stateOf};
+ghost use Rattle.book.specs.Sharing.{done, holding, registerRoom, withHolders, scheduleRoom, withRows};
+ghost use Rattle.std.specs.Vec.{made, refused};
+ghost use Rattle.book.specs.Readings.{blankAnswer};
+ghost use Rattle.season.specs.Outcomes.{doneBy, scheduledBy, outcome, stateOf, startOf};
+ghost use Rattle.season.specs.Replays.{Replayed, callsMade};
 use book::Book;
 use domain::AllocationRow;
 use domain::Fault;
 use domain::Line;
 use domain::Reading;
 use domain::Slot;
+use domain::Terms;
 use history::Dated;
 use rules::Rule;
 
@@ -75,6 +79,42 @@ pub enum Call<'a> {
 pub fn lines_add_up()
     ensures { λ _. ⌜ LinesAddUp ⌝ }
 {}
+
+// Runs the calls of an audit log again, one after the other from an open book and blanked tables, and writes beside each what came of it.
+// It runs as many calls as there is room for outcomes; only blanking can refuse it.
+pub fn replay<R: Rule + Drop>(
+    terms: Terms,
+    rule: R,
+    holders: &mut [Dated<u16>],
+    rows: &mut [Dated<AllocationRow>],
+    readings: &mut [Reading],
+    issued: &mut [Slot],
+    journal: &mut [Line],
+    calls: &[Call<'_>],
+    outcomes: &mut [Outcome],
+) -> Result<Book<R>, Fault>
+    ensures answer { λ r. ⌜ done r ≡ blankAnswer terms (now (readings .entry)) (now (issued .entry)) ⌝ }
+    ensures of { λ r. ⌜ made r (λ b. (b .terms ≡ terms) × (b .rule ≡ rule)) ⌝ }
+    ensures replayed { λ r. ⌜ made r (λ b. Replayed terms (R·Rule .meaning rule) (startOf (now (holders .entry)) (now (rows .entry)) (now (readings .entry)) (now (issued .entry)) (now (journal .entry))) (callsMade (now (calls .entry)) (now (outcomes .entry))) (now (outcomes .entry)) (stateOf (kept b) (now (holders .exit)) (now (rows .exit)) (now (readings .exit)) (now (issued .exit)) (now (journal .exit))) (now (outcomes .exit))) ⌝ }
+    ensures refused { λ r. ⌜ refused r (λ _. (stateOf opened (now (holders .exit)) (now (rows .exit)) (now (readings .exit)) (now (issued .exit)) (now (journal .exit)) ≡ stateOf opened (now (holders .entry)) (now (rows .entry)) (now (readings .entry)) (now (issued .entry)) (now (journal .entry))) × (now (outcomes .exit) ≡ now (outcomes .entry))) ⌝ }
+{
+    let mut book = Book::open(terms, rule);
+    book.blank(readings, issued)?;
+    let count = calls.len().min(outcomes.len());
+    for i in 0..count {
+        let came = apply(
+            &mut book,
+            holders,
+            rows,
+            readings,
+            issued,
+            journal,
+            &calls[i],
+        );
+        outcomes[i] = came;
+    }
+    Ok(book)
+}
 
 // Does what a call says on a book and its tables, and says what came of it.
 fn apply<R: Rule>(
