@@ -1,17 +1,16 @@
 -- What an issue answers, and that what was looked up leads to what is in force.
 use mathlib.Core.Path.{_≡_, refl, sym, ap, _∙_}
-use mathlib.Core.Bool.{Bool, true, false, _||_, _&&_, not}
+use mathlib.Core.Bool.{false, _||_, _&&_, not}
 use mathlib.Core.List.{List}
 use Prim.Native.Nat.{ℕ, zero, suc, _+_, _*_, _-_, _≤_, _<_}
 use native.Mathlib.Omega.{arith}
 use lib.Dec.{leb, eqb}
 use lib.ListN.{length, getD}
-use lib.IntN.{ℤ, pos, negsuc, negℤ}
-use lib.Signed.{ltZ, _≤ℤ_}
+use lib.IntN.{ℤ, pos, negℤ}
+use lib.Signed.{ltZ}
 use Rattle.std.specs.Options.{valueOr}
 use Rattle.std.specs.declared.option.Option.{Option}
 use Rattle.std.specs.declared.option.Option.the-variants.{None}
-use Rattle.std.specs.declared.result.Result.{Result}
 use Rattle.std.specs.declared.result.Result.the-variants.{Ok, Err}
 use Rattle.std.proofs.shelf.Tests.{le-leb, lt-leb, leb-true, or-parts}
 use Rattle.std.proofs.shelf.Signed.{ints}
@@ -22,7 +21,6 @@ use Rattle.domain.specs.Lines.{lineOf, slotLines}
 use Rattle.domain.specs.declared.AllocationRow.{AllocationRow}
 use Rattle.domain.specs.declared.Reading.{Reading}
 use Rattle.domain.specs.declared.Slot.{Slot}
-use Rattle.domain.specs.declared.Line.{Line}
 use Rattle.domain.specs.declared.Fault.{Fault}
 use Rattle.domain.specs.declared.Fault.the-variants.{JournalTooShort}
 use Rattle.domain.specs.declared.terms.Terms.{Terms}

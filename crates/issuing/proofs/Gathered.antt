@@ -7,7 +7,7 @@ use native.Mathlib.Omega.{arith}
 use native.Mathlib.Numerals.{add-one}
 use lib.ListN.{length, take, drop, set, getD, length-append, length-set}
 use lib.Seq.{paste}
-use Rattle.std.proofs.shelf.Lists.{set-split, append-assoc, take-append-drop, take-all, getD-set-same, getD-set-other}
+use Rattle.std.proofs.shelf.Lists.{set-split, take-append-drop, getD-set-same, getD-set-other}
 use Rattle.std.proofs.shelf.Tests.{cases-eq}
 use Rattle.std.proofs.shelf.Edits.{paste-all, paste-paste}
 use Rattle.domain.specs.declared.Slot.{Slot}

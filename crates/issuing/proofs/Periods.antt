@@ -1,16 +1,13 @@
 -- The lines and slots of a day, place by place and period by period.
-use mathlib.Core.Path.{_≡_, refl, sym, ap, subst, _∙_}
-use mathlib.Core.List.{List, [], _∷_, _++_}
-use Prim.Native.Nat.{ℕ, zero, suc, _+_, _*_, _-_, _≤_, _<_}
+use mathlib.Core.Path.{_≡_, refl, ap, _∙_}
+use mathlib.Core.List.{List}
+use Prim.Native.Nat.{ℕ, zero, suc, _+_, _*_, _≤_, _<_}
 use native.Mathlib.Omega.{arith}
-use native.Mathlib.Numerals.{add-one}
 use lib.ListN.{length, set, getD}
-use Rattle.std.proofs.shelf.Bits.{mul-add-lt}
 use Rattle.domain.specs.Slots.{readingSlot, issuedSlot}
 use Rattle.domain.specs.Checks.{slotAt, noVolume}
-use Rattle.domain.specs.Lines.{lineOf, slotLines, gathered}
+use Rattle.domain.specs.Lines.{lineOf, slotLines}
 use Rattle.domain.specs.declared.Slot.{Slot}
-use Rattle.domain.specs.declared.Line.{Line}
 use Rattle.domain.specs.declared.terms.Terms.{Terms}
 use Rattle.rows.specs.Rows.{Tame}
 use Rattle.issuing.specs.Posted.{filled}

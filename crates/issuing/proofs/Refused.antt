@@ -1,6 +1,6 @@
 -- Which check refuses an issue, once those before it are passed.
-use mathlib.Core.Path.{_≡_, refl, sym, ap, _∙_}
-use mathlib.Core.Bool.{Bool, true, not, _&&_}
+use mathlib.Core.Path.{_≡_, sym, ap, _∙_}
+use mathlib.Core.Bool.{Bool, not, _&&_}
 use mathlib.Core.List.{List}
 use Prim.Native.Nat.{ℕ, _+_, _*_, _≤_, _<_}
 use native.Mathlib.Omega.{arith}
@@ -28,7 +28,7 @@ use Rattle.issuing.specs.declared.Standing.{Standing}
 use Rattle.issuing.specs.First.{firstWhere, unlessFound}
 use Rattle.issuing.specs.InForce.{isEnded, needsHolder}
 use Rattle.issuing.specs.Slots.{isEmpty, slotOfDay}
-use Rattle.issuing.specs.Issue.{isRun, supplierOn, lacksHolder, callChecked, inForceChecked, standingChecked, issueChecked}
+use Rattle.issuing.specs.Issue.{isRun, supplierOn, lacksHolder, callChecked, inForceChecked, standingChecked}
 use Rattle.issuing.proofs.Chains.{past, stop, found-then, unless-ok}
 use Rattle.issuing.proofs.Firsts.{first-same}
 use Rattle.issuing.proofs.Stages.{call-then, force-then, standing-then}

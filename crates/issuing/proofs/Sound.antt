@@ -1,20 +1,19 @@
 -- No slot of a day that was issued is spoiled.
-use mathlib.Core.Path.{_≡_, refl, sym, ap, _∙_}
+use mathlib.Core.Path.{_≡_, ap, _∙_}
 use mathlib.Core.Bool.{Bool, true, false, cond, not, _&&_, _||_}
 use mathlib.Core.List.{List}
 use mathlib.Core.Logic.{⊎-elim}
-use Prim.Native.Nat.{ℕ, _+_, _≤_, _<_}
+use Prim.Native.Nat.{ℕ, _≤_, _<_}
 use native.Mathlib.Omega.{arith}
 use lib.Dec.{leb, eqb}
-use lib.ListN.{length}
-use lib.IntN.{ℤ, pos, negsuc, negℤ}
-use lib.Signed.{ltZ, _≤ℤ_}
+use lib.IntN.{ℤ, pos, negℤ}
+use lib.Signed.{ltZ}
 use Rattle.std.specs.Options.{isSome, valueOr}
 use Rattle.std.specs.declared.option.Option.{Option}
 use Rattle.std.specs.declared.option.Option.the-variants.{Some, None}
 use Rattle.std.proofs.shelf.Signed.{ints}
 use Rattle.std.proofs.shelf.Ways.{tells}
-use Rattle.std.proofs.shelf.Tests.{cond-both, cond-false, or-from, or-parts, and-left, and-right, and-parts, leb-true, ne-eqb, eqb-false, cases-bool, not-false, both-ways}
+use Rattle.std.proofs.shelf.Tests.{cond-both, cond-false, or-from, and-left, and-right, and-parts, leb-true, eqb-false, cases-bool}
 use Rattle.domain.specs.Limits.{periods, mostKwh}
 use Rattle.domain.specs.Checks.{spoiledSlot, readingAt, slotAt, isZero}
 use Rattle.domain.specs.declared.AllocationRow.{AllocationRow}
@@ -22,13 +21,12 @@ use Rattle.domain.specs.declared.Reading.{Reading}
 use Rattle.domain.specs.declared.Slot.{Slot}
 use Rattle.domain.specs.declared.terms.Terms.{Terms}
 use Rattle.history.specs.declared.Dated.{Dated}
-use Rattle.history.specs.Entries.{inForce, entryAt}
 use Rattle.rules.specs.Meaning.{Meaning, Laws}
 use Rattle.rows.specs.Rows.{Tame, shareOf, agreement}
 use Rattle.rows.proofs.Tamed.{tame-none, tame-answered}
 use Rattle.issuing.specs.declared.Standing.{Standing}
-use Rattle.issuing.specs.InForce.{isEnded, needsHolder, supplierOf, rowOf, spoiledHolder}
-use Rattle.issuing.specs.Issue.{supplierOn, rowOn, lacksHolder, nextSlot, issuedAfter}
+use Rattle.issuing.specs.InForce.{isEnded, needsHolder, spoiledHolder}
+use Rattle.issuing.specs.Issue.{rowOn, nextSlot, issuedAfter}
 use Rattle.issuing.specs.Granted.{Granted}
 use Rattle.issuing.proofs.After.{after-here}
 

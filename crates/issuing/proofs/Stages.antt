@@ -1,27 +1,26 @@
 -- The checks of an issue, stage by stage.
-use mathlib.Core.Path.{_≡_, refl, sym, ap, _∙_}
-use mathlib.Core.Bool.{Bool, true, false, not}
+use mathlib.Core.Path.{_≡_, sym, ap, _∙_}
+use mathlib.Core.Bool.{Bool, not}
 use mathlib.Core.List.{List}
 use Prim.Native.Nat.{ℕ, _+_, _*_, _-_, _≤_, _<_}
 use native.Mathlib.Omega.{arith}
 use lib.Dec.{leb}
 use lib.ListN.{length, getD, take}
 use Rattle.std.specs.Options.{isSome}
-use Rattle.std.specs.declared.option.Option.{Option}
-use Rattle.std.specs.declared.option.Option.the-variants.{Some, None}
+use Rattle.std.specs.declared.option.Option.the-variants.{None}
 use Rattle.std.specs.declared.result.Result.{Result}
 use Rattle.std.specs.declared.result.Result.the-variants.{Ok, Err}
 use Rattle.std.proofs.shelf.Tests.{le-leb, lt-leb, leb-true, ltb-true, eqb-true, not-true}
 use Rattle.std.proofs.shelf.Bits.{mul-add-lt}
 use Rattle.domain.specs.Limits.{periods}
-use Rattle.domain.specs.Slots.{issuedSlot, issuedSlots}
+use Rattle.domain.specs.Slots.{issuedSlots}
 use Rattle.domain.specs.Checks.{unless, andThen, isDay, readingsFit, issuedFit, readingAt, slotAt, spoiledReading, spoiledSlot, noVolume}
 use Rattle.domain.specs.declared.AllocationRow.{AllocationRow}
 use Rattle.domain.specs.declared.Reading.{Reading}
 use Rattle.domain.specs.declared.Slot.{Slot}
 use Rattle.domain.specs.declared.Table.the-variants.{Holders, Rows, Readings, Issued, Journal}
 use Rattle.domain.specs.declared.Fault.{Fault}
-use Rattle.domain.specs.declared.Fault.the-variants.{ArgumentOutsideLimits, AnotherSize, Spoiled, DayClosed, ReadingMissing, HolderMissing, JournalTooShort}
+use Rattle.domain.specs.declared.Fault.the-variants.{ArgumentOutsideLimits, AnotherSize, Spoiled, DayClosed, ReadingMissing, HolderMissing}
 use Rattle.domain.specs.declared.terms.Terms.{Terms}
 use Rattle.history.specs.declared.Dated.{Dated}
 use Rattle.rules.specs.Meaning.{Meaning}
@@ -29,7 +28,7 @@ use Rattle.issuing.specs.declared.Standing.{Standing}
 use Rattle.issuing.specs.First.{firstWhere, unlessFound}
 use Rattle.issuing.specs.InForce.{isEnded, spoiledHolder, spoiledRow}
 use Rattle.issuing.specs.Slots.{isEmpty, slotOfDay}
-use Rattle.issuing.specs.Sheets.{badHolder, badRow, Holding, HolderSpoiled, RowSpoiled}
+use Rattle.issuing.specs.Sheets.{badHolder, badRow, HolderSpoiled, RowSpoiled}
 use Rattle.issuing.specs.Issue.{isRun, supplierOn, rowOn, lacksHolder, callChecked, inForceChecked, slotsChecked, standingChecked, completeChecked, issueChecked}
 use Rattle.issuing.specs.Granted.{Granted}
 use Rattle.issuing.proofs.Chains.{past-unless, stop-unless, past-found, stop-found, unless-ok, found-ok, unless-then, found-then}

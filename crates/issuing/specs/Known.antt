@@ -4,13 +4,11 @@ use mathlib.Core.List.{List}
 use Prim.Native.Nat.{ℕ, _+_, _<_}
 use lib.ListN.{getD}
 use Rattle.std.specs.declared.option.Option.the-variants.{None}
-use Rattle.std.specs.declared.result.Result.{Result}
 use Rattle.std.specs.declared.result.Result.the-variants.{Ok}
 use Rattle.domain.specs.Limits.{periods}
 use Rattle.domain.specs.declared.AllocationRow.{AllocationRow}
 use Rattle.domain.specs.declared.Reading.{Reading}
 use Rattle.domain.specs.declared.Slot.{Slot}
-use Rattle.domain.specs.declared.Fault.{Fault}
 use Rattle.domain.specs.declared.terms.Terms.{Terms}
 use Rattle.history.specs.declared.Dated.{Dated}
 use Rattle.rules.specs.Meaning.{Meaning}

@@ -1,6 +1,6 @@
 -- What stands in the journal and in the table of what was issued once lines are sent and slots filled.
 use mathlib.Core.List.{List, _++_}
-use Prim.Native.Nat.{ℕ, zero, suc, _+_, _*_}
+use Prim.Native.Nat.{ℕ, zero, suc, _+_}
 use lib.ListN.{length, set, take, drop}
 use lib.IntN.{ℤ}
 use Rattle.domain.specs.Lines.{lineOf}

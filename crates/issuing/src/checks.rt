@@ -1,7 +1,7 @@
 // What a day's slots must hold before anything is sent.
 ghost use mathlib.Core.Path.{_≡_};
 ghost use mathlib.Core.Bool.{not, _&&_};
-ghost use Prim.Native.Nat.{ℕ, _+_, _≤_, _<_};
+ghost use Prim.Native.Nat.{_+_, _≤_, _<_};
 ghost use lib.ListN.{length, getD};
 ghost use Rattle.std.specs.Options.{isSome};
 ghost use Rattle.std.specs.declared.option.Option.the-variants.{None};
@@ -14,6 +14,7 @@ ghost use Rattle.domain.specs.declared.Fault.the-variants.{Spoiled, ReadingMiss
 ghost use Rattle.issuing.specs.First.{firstWhere, unlessFound};
 ghost use Rattle.issuing.specs.InForce.{needsHolder};
 ghost use Rattle.issuing.specs.Slots.{isEmpty, slotOfDay};
+use super::sheet::PLACES;
 use super::sheet::needs_holder;
 use domain::Fault;
 use domain::PERIODS;
@@ -73,7 +74,11 @@ pub fn complete_readings(readings: &[Reading], day: u16) -> Result<(), Fault>
 }
 
 // Refuses a day on which a place that needs a holder has none, at the first.
-pub fn complete_holders(terms: Terms, holders: &[Option<u16>; 8], ended: bool) -> Result<(), Fault>
+pub fn complete_holders(
+    terms: Terms,
+    holders: &[Option<u16>; PLACES],
+    ended: bool,
+) -> Result<(), Fault>
     ensures { λ r. ⌜ r ≡ unlessFound (firstWhere (λ q. needsHolder ended q && not (isSome (getD (now (holders .entry)) q None))) (terms .places)) HolderMissing (Ok tt) ⌝ }
 {
     for place in 0..terms.places {

@@ -1,6 +1,6 @@
 // Issuing a day: what is sent, and what the tables hold then.
 ghost use mathlib.Core.Path.{_≡_};
-ghost use Prim.Native.Nat.{ℕ, _+_, _≤_};
+ghost use Prim.Native.Nat.{_+_};
 ghost use lib.ListN.{length};
 ghost use Rattle.std.specs.Results.{Cases};
 ghost use Rattle.std.specs.declared.result.Result.the-variants.{Ok, Err};
@@ -44,6 +44,7 @@ pub struct Standing {
     pub closed: bool,
 }
 
+// Refuses arguments outside their limits and tables of another size.
 fn admit_call(
     terms: Terms,
     readings: &[Reading],
@@ -59,6 +60,7 @@ fn admit_call(
     terms.fit_issued(issued)
 }
 
+// Refuses a journal that has less than was sent, and a closed day.
 fn admit_day(standing: Standing, room: usize, day: u16) -> Result<(), Fault>
     ensures { λ r. ⌜ r ≡ standingChecked standing room day (Ok tt) ⌝ }
 {

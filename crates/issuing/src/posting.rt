@@ -85,8 +85,9 @@ impl<R: Rule> Plan<'_, '_, '_, R> {
                 period,
                 place,
             };
+            let was = issued[slot];
             let next = self.next_slot(period, place);
-            end = send_slot(journal, end, heading, issued[slot], next);
+            end = send_slot(journal, end, heading, was, next);
             issued[slot] = next;
         }
         end

@@ -1,15 +1,11 @@
 // Who and what is in force on a day that is issued.
 ghost use mathlib.Core.Path.{_≡_};
-ghost use Prim.Native.Nat.{ℕ, _+_, _<_};
-ghost use lib.ListN.{length, getD, take};
+ghost use Prim.Native.Nat.{_+_};
+ghost use lib.ListN.{length, take};
 ghost use Rattle.std.specs.Results.{Cases};
 ghost use Rattle.std.specs.declared.option.Option.the-variants.{None};
 ghost use Rattle.std.specs.declared.result.Result.the-variants.{Ok, Err};
-ghost use Rattle.domain.specs.Limits.{periods};
-ghost use Rattle.domain.specs.declared.Table.the-variants.{Holders, Rows};
-ghost use Rattle.domain.specs.declared.Fault.the-variants.{Spoiled};
 ghost use Rattle.history.specs.Entries.{inForce, entryAt};
-ghost use Rattle.issuing.specs.First.{firstWhere};
 ghost use Rattle.issuing.specs.InForce.{isEnded, needsHolder, supplierOf, rowOf, spoiledHolder, spoiledRow};
 ghost use Rattle.issuing.specs.Issue.{inForceChecked};
 ghost use Rattle.issuing.specs.Known.{OnDay};
@@ -17,6 +13,7 @@ ghost use Rattle.issuing.specs.Sheets.{Holding, Splitting, HolderSpoiled, RowS
 use super::Standing;
 use domain::AllocationRow;
 use domain::Fault;
+use domain::MAX_PLACES;
 use domain::PERIODS;
 use domain::Table;
 use domain::Terms;
@@ -25,13 +22,18 @@ use history::History;
 use rows::is_allowed;
 use rules::Rule;
 
+// The places and the Settlement Periods that a sheet has room for.
+pub const PLACES: usize = MAX_PLACES as usize;
+
+pub const HALF_HOURS: usize = PERIODS as usize;
+
 // What is in force on a day: the holder of each place, and the row of each Settlement Period.
 #[derive(Clone, Copy)]
 pub struct Sheet {
     // none for a place that needs no holder or has none
-    pub holders: [Option<u16>; 8],
+    pub holders: [Option<u16>; PLACES],
     // none from the end day on
-    pub rows: [Option<AllocationRow>; 48],
+    pub rows: [Option<AllocationRow>; HALF_HOURS],
 }
 
 // Before the end day every place needs a holder, from it on only place 0.
@@ -118,11 +120,11 @@ fn holders_of(
     held: History<'_, u16>,
     ended: bool,
     day: u16,
-) -> Result<[Option<u16>; 8], Fault>
+) -> Result<[Option<u16>; PLACES], Fault>
     requires { ⌜ now (held .entries) ≡ take (length (now (held .entries))) (now table) ⌝ }
     ensures { λ r. ⌜ Cases r (Holding (terms .places) (now (held .entry .entries)) ended day) (HolderSpoiled (terms .places) (now (held .entry .entries)) ended day) ⌝ }
 {
-    let mut holders = [None; 8];
+    let mut holders = [None; PLACES];
     for place in 0..terms.places {
         let holder = supplier_of(table, held, ended, day, place);
         let spoiled = is_spoiled_holder(holder);
@@ -144,11 +146,11 @@ fn rows_of<R: Rule>(
     held: History<'_, AllocationRow>,
     ended: bool,
     day: u16,
-) -> Result<[Option<AllocationRow>; 48], Fault>
+) -> Result<[Option<AllocationRow>; HALF_HOURS], Fault>
     requires { ⌜ now (held .entries) ≡ take (length (now (held .entries))) (now table) ⌝ }
     ensures { λ r. ⌜ Cases r (Splitting (R·Rule .meaning (now (rule .entry))) terms (now (held .entry .entries)) ended day) (RowSpoiled (R·Rule .meaning (now (rule .entry))) terms (now (held .entry .entries)) ended day) ⌝ }
 {
-    let mut rows = [None; 48];
+    let mut rows = [None; HALF_HOURS];
     for i in 0..PERIODS {
         let row = row_of(table, held, ended, day, i + 1);
         let spoiled = is_spoiled_row(rule, terms, &row);

@@ -1,11 +1,11 @@
 use mathlib.Core.Path.{_≡_, sym, ap, subst, _∙_}
 use mathlib.Core.Bool.{true}
-use Prim.Native.Nat.{ℕ, _+_, _<_}
+use Prim.Native.Nat.{ℕ, _+_}
 use native.Mathlib.Omega.{arith}
 use borrow.Author.Needs.{needs}
 use lib.ListN.{getD}
 use Rattle.std.specs.declared.option.Option.the-variants.{None}
-use Rattle.domain.specs.Slots.{issuedSlot, issuedSlots}
+use Rattle.domain.specs.Slots.{issuedSlots}
 use Rattle.domain.specs.Checks.{spoiledSlot, noVolume}
 use Rattle.domain.specs.declared.Table.the-variants.{Issued}
 use Rattle.domain.specs.declared.Fault.the-variants.{Spoiled}

@@ -1,12 +1,9 @@
-use mathlib.Core.Path.{_≡_, sym, ap, _∙_}
-use mathlib.Core.List.{List, [], _∷_}
-use Prim.Native.Nat.{_+_, _<_}
+use mathlib.Core.Path.{sym, ap, _∙_}
 use native.Mathlib.Omega.{arith}
 use borrow.Author.Needs.{needs}
 use lib.ListN.{length}
 use mir.Syntax.{w32}
 use mir.Val.{SFits}
-use Rattle.domain.specs.Lines.{sent}
 use Rattle.issuing.specs.Posted.{posted}
 use Rattle.issuing.proofs.Sent.{sent-none, sent-one}
 use Rattle.issuing.proofs.Gathered.{posted-none, posted-one}

@@ -1,8 +1,7 @@
-use mathlib.Core.Path.{_≡_, refl, sym, ap, subst, _∙_}
+use mathlib.Core.Path.{sym, ap, subst}
 use Prim.Native.Nat.{ℕ, _+_}
 use native.Mathlib.Omega.{arith}
 use lib.ListN.{length, getD}
-use lib.IntN.{ℤ}
 use Rattle.domain.specs.Checks.{noVolume}
 use Rattle.rows.specs.Rows.{Tame}
 use Rattle.domain.proofs.Within.{issued-within}
@@ -25,15 +24,12 @@ count-slot-needed-requires g c κs = record {
   next = c .next-slot .ensures .tame;
 }
 
-step : (g : Rattle.issuing.proofs.posting.Plan.count_period.Given.Over) (c : need.After-count-slot-needed g) → need.loop-place-again·asks (g .R) (g .R·laws) (g .R·Rule) (g .R·Rule·dict) (g .world) (g .R·Rule·met) c
-step g c =
+pub loop-place-again : need.loop-place-again
+loop-place-again g c =
     let p = c .args .self in
     count-step (p .terms) (planned (g .R·Rule .meaning (p .rule .now)) p) (p .day) (p .run) (c .args .issued .now) (c .args .period) (c .loop-place .place) (c .issued-slot .result) (c .next-slot .result) (c .issued-slot .ensures) (c .next-slot .ensures .is) (c .loop-place .needed) (c .count-slot-needed .result) (c .loop-place .inv) (c .count-slot-needed .ensures (p .day) (p .run) (c .args .period) (c .loop-place .place))
-
-pub loop-place-again : need.loop-place-again
-loop-place-again g c = step g c
 
 pub add-needed : need.add-needed
 add-needed g c =
     let p = c .args .self in
-    omega (arith, step g c, period-most (p .terms) (planned (g .R·Rule .meaning (p .rule .now)) p) (p .day) (p .run) (c .args .issued .now) (c .args .period) (c .loop-place .place + 1), c .args .self .terms .few)
+    omega (arith, count-step (p .terms) (planned (g .R·Rule .meaning (p .rule .now)) p) (p .day) (p .run) (c .args .issued .now) (c .args .period) (c .loop-place .place) (c .issued-slot .result) (c .next-slot .result) (c .issued-slot .ensures) (c .next-slot .ensures .is) (c .loop-place .needed) (c .count-slot-needed .result) (c .loop-place .inv) (c .count-slot-needed .ensures (p .day) (p .run) (c .args .period) (c .loop-place .place)), period-most (p .terms) (planned (g .R·Rule .meaning (p .rule .now)) p) (p .day) (p .run) (c .args .issued .now) (c .args .period) (c .loop-place .place + 1), c .args .self .terms .few)

@@ -1,13 +1,12 @@
-use mathlib.Core.Path.{_≡_, refl, sym, ap, _∙_}
-use mathlib.Core.List.{List}
-use Prim.Native.Nat.{ℕ, _+_, _*_, _≤_, _<_}
+use mathlib.Core.Path.{sym, ap, _∙_}
+use Prim.Native.Nat.{ℕ, _+_, _*_}
 use native.Mathlib.Omega.{arith}
 use lib.ListN.{length}
 use Rattle.domain.specs.Limits.{periods}
 use Rattle.domain.specs.Slots.{readingSlot}
 use Rattle.issuing.specs.Posted.{posted, filled}
 use Rattle.issuing.specs.Days.{periodLines}
-use Rattle.issuing.specs.Plans.{planned, Ready}
+use Rattle.issuing.specs.Plans.{planned}
 use Rattle.issuing.proofs.Gathered.{gathered-none, posted-none, turn-room, turn-end, turn-journal}
 use Rattle.issuing.proofs.Periods.{days-none, days-more, length-days, later-lines, later-tame}
 use Rattle.issuing.proofs.posting.Plan.send.Needs as need

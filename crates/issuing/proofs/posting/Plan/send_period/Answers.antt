@@ -1,11 +1,6 @@
-use mathlib.Core.Path.{_≡_, refl, sym, ap, subst, _∙_}
-use Prim.Native.Nat.{ℕ, _+_, _*_, _<_}
+use mathlib.Core.Path.{sym, ap, _∙_}
 use native.Mathlib.Omega.{arith}
-use lib.ListN.{length, getD}
-use Rattle.domain.specs.Slots.{readingSlot}
-use Rattle.domain.specs.Checks.{noVolume}
-use Rattle.domain.specs.declared.Slot.{Slot}
-use Rattle.rows.specs.Rows.{Tame}
+use lib.ListN.{length}
 use Rattle.domain.proofs.Within.{issued-within}
 use Rattle.issuing.specs.Posted.{posted}
 use Rattle.issuing.specs.Days.{placeLines}
@@ -18,8 +13,8 @@ pub loop-place-holds : need.loop-place-holds
 loop-place-holds g c =
     (simp gathered-none (omega arith), sym (posted-none (c .args .journal .now) (c .args .at)) ∙ sym (ap (posted (c .args .journal .now) (c .args .at)) (gathered-none _)), sym (filled-none _ _ (c .args .issued .now)))
 
-pub slice-copy-out·send-slot : need.slice-copy-out·send-slot
-slice-copy-out·send-slot g c =
+pub slice-copy-out·was : need.slice-copy-out·was
+slice-copy-out·was g c =
     let p = c .args .self in
     omega (arith, issued-within (p .terms .places) (p .terms .days) (p .day) (c .args .period) (c .loop-place .place) (c .pre .ready .day) (c .pre .period .0) (c .pre .period .1) (c .loop-place-test .taken), c .pre .ready .slots, c .issued-slot-slot .ensures, c .loop-place .kept .issued)
 

@@ -1,4 +1,3 @@
-use mathlib.Core.Path.{_≡_, refl, sym, ap, _∙_}
 use Rattle.std.proofs.shelf.Results.{err-from-errBy}
 use Rattle.issuing.proofs.Stages.{holder-refused, rows-short, row-refused}
 use Rattle.issuing.proofs.sheet.Sheet.on_day.Needs as need
