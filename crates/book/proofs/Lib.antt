@@ -1,2 +1,4 @@
 pub mod Held
 pub mod Rows
+pub mod Sendings
+pub mod Receipts

@@ -20,6 +20,7 @@ use domain::issued_slot;
 use domain::reading_slot;
 use rules::Rule;
 
+mod issues;
 mod notices;
 mod sharing;
 mod statements;

@@ -1,0 +1,11 @@
+pub mod Sent
+pub mod Gathered
+pub mod Periods
+pub mod Firsts
+pub mod Lookups
+pub mod Chains
+pub mod Stages
+pub mod Refused
+pub mod Answered
+pub mod After
+pub mod Sound

@@ -1,0 +1,10 @@
+pub mod Posted
+pub mod Days
+pub mod Plans
+pub mod First
+pub mod InForce
+pub mod Slots
+pub mod Sheets
+pub mod Issue
+pub mod Known
+pub mod Granted
