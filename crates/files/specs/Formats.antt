@@ -49,15 +49,13 @@ bodySize Statement n = n * lineSize
 abbrev pub fileSize : Kind → ℕ → ℕ
 fileSize k n = headerSize + bodySize k n
 
-<<<<<<< HEAD
 -- the most bytes that a file can have
 abbrev pub mostBytes : ℕ
 mostBytes = headerSize + mostRecords * lineSize
-=======
+
 -- bytes of a statement of so many lines
 abbrev pub statementSize : ℕ → ℕ
 statementSize n = fileSize Statement n
->>>>>>> booktests
 
 -- the header's bytes: the mark SSM, the version, the kind byte and the count
 abbrev pub headerOf : ℕ → ℕ → List ℕ

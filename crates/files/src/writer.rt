@@ -8,13 +8,8 @@ ghost use Rattle.std.specs.Vec.{made};
 ghost use Rattle.std.specs.shelf.Lists.{All, joined};
 ghost use Rattle.std.specs.declared.result.Result.the-variants.{Ok};
 ghost use Rattle.files.specs.Records.{encodedIntro, WholeIntro, encodedRow, WholeRow};
-<<<<<<< HEAD
-ghost use Rattle.files.specs.Formats.{kindNumber, headerOf};
-ghost use Rattle.files.specs.Contents.{ofSchedule, ofReadings, ofStatement, fileOf, contentRead, rewritten, writing, rewriting, over, settled, noticeOf};
-=======
 ghost use Rattle.files.specs.Formats.{kindNumber, headerOf, statementSize};
-ghost use Rattle.files.specs.Contents.{schedule, readings, statement, fileOf, contentRead, rewritten, writing, rewriting, over, settled, noticeOf};
->>>>>>> booktests
+ghost use Rattle.files.specs.Contents.{ofSchedule, ofReadings, ofStatement, fileOf, contentRead, rewritten, writing, rewriting, over, settled, noticeOf};
 ghost use Rattle.files.specs.declared.formats.Kind.the-variants as kind;
 use crate::formats::HEADER;
 use crate::formats::INTRO;
