@@ -3,3 +3,4 @@ pub mod Readings
 pub mod Volumes
 pub mod Sharing
 pub mod Statements
+pub mod Gates
