@@ -30,9 +30,6 @@ mod checks;
 mod lines;
 mod posting;
 mod sheet;
-#[cfg(test)]
-mod tests;
-
 // What the book knows of itself when it issues a day.
 #[derive(Clone, Copy)]
 pub struct Standing {
