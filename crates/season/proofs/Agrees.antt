@@ -13,6 +13,7 @@ use Rattle.std.specs.Options.{valueOr}
 use Rattle.std.specs.shelf.Maps.{nth}
 use Rattle.std.specs.declared.option.Option.{Option}
 use Rattle.std.specs.declared.option.Option.the-variants.{Some, None}
+use Rattle.std.specs.Results.{isOk}
 use Rattle.std.specs.declared.result.Result.{Result}
 use Rattle.std.specs.declared.result.Result.the-variants.{Ok, Err}
 use Rattle.std.proofs.shelf.Lists.{getD-set-same, getD-set-other}
@@ -42,7 +43,7 @@ use Rattle.book.specs.Readings.{withReading}
 use Rattle.season.specs.declared.Call.{Call}
 use Rattle.season.specs.declared.Call.the-variants as call
 use Rattle.season.specs.Plain.{Plain, at, atBoth, rowOf, slotOf, after, plainStep}
-use Rattle.season.specs.Steps.{State, isOk, registered, scheduled, read, ended, step, accepts}
+use Rattle.season.specs.Steps.{State, registered, scheduled, read, ended, step, accepts}
 
 -- a slot of readings says what was read: nothing where it is empty
 abbrev pub ReadAs : Reading → Option ℕ → Type 0

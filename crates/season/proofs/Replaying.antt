@@ -9,6 +9,7 @@ use denote.Ref.{now}
 use lib.Dec.{eqb}
 use lib.ListN.{length, getD, take, drop, set, replicate, length-replicate}
 use Rattle.std.specs.declared.option.Option.the-variants.{None}
+use Rattle.std.specs.Results.{isOk}
 use Rattle.std.specs.declared.result.Result.{Result}
 use Rattle.std.specs.declared.result.Result.the-variants.{Ok, Err}
 use Rattle.std.proofs.shelf.Lists.{append-assoc, take-more, drop-more, set-at, length-take-le, getD-replicate, getD-past}
@@ -33,7 +34,7 @@ use Rattle.season.specs.declared.Call.the-variants as call
 use Rattle.season.specs.declared.Outcome.{Outcome}
 use Rattle.season.specs.Plain.{nothingYet, plainRun}
 use Rattle.season.specs.Law.{Adds}
-use Rattle.season.specs.Steps.{State, isOk, registered, scheduled, read, ended, issued, accepts, step, run, told}
+use Rattle.season.specs.Steps.{State, registered, scheduled, read, ended, issued, accepts, step, run, told}
 use Rattle.season.specs.Outcomes.{doneBy, scheduledBy, issuedBy, accepted, heard, startOf, outcome, outcomes}
 use Rattle.season.specs.Replays.{Replayed}
 use Rattle.season.proofs.Agrees.{Agrees, unless-ok}

@@ -10,6 +10,7 @@ use lib.Dec.{eqb, leb}
 use lib.ListN.{length, take}
 use Rattle.std.specs.declared.option.Option.{Option}
 use Rattle.std.specs.declared.option.Option.the-variants.{Some, None}
+use Rattle.std.specs.Results.{isOk}
 use Rattle.std.specs.declared.result.Result.{Result}
 use Rattle.std.specs.declared.result.Result.the-variants.{Ok, Err}
 use Rattle.std.proofs.shelf.Tests.{cases-eq, eq-eqb, ne-eqb, false≢true, cond-true}
@@ -32,7 +33,7 @@ use Rattle.season.specs.declared.Call.the-variants as call
 use Rattle.season.specs.Plain.{Plain, Written, slotOf, writes, issueLines, plainStep, plainRun}
 use Rattle.season.specs.Plain as plain
 use Rattle.season.specs.Granted.{Granted, AllGranted}
-use Rattle.season.specs.Steps.{State, isOk, registered, scheduled, read, ended, issued, accepts, step, run, told}
+use Rattle.season.specs.Steps.{State, registered, scheduled, read, ended, issued, accepts, step, run, told}
 use Rattle.season.proofs.Agrees.{Agrees, agrees-register, agrees-schedule, agrees-reading, agrees-end}
 use Rattle.season.proofs.Writings.{next-is, lines-are, ready}
 

@@ -1,12 +1,12 @@
 -- The calls of a season, one after the other, on a book and its five tables.
 use denote.Ref.{now}
-use mathlib.Core.Bool.{Bool, true, false}
+use mathlib.Core.Bool.{Bool}
 use mathlib.Core.List.{List, [], _∷_}
 use Prim.Native.Nat.{ℕ}
 use lib.ListN.{take}
 use Rattle.std.specs.Iters.{folded}
+use Rattle.std.specs.Results.{isOk}
 use Rattle.std.specs.declared.result.Result.{Result}
-use Rattle.std.specs.declared.result.Result.the-variants.{Ok, Err}
 use Rattle.domain.specs.Checks.{settled}
 use Rattle.domain.specs.declared.AllocationRow.{AllocationRow}
 use Rattle.domain.specs.declared.Reading.{Reading}
@@ -32,11 +32,6 @@ pub record State : Type 0 where
   pub readings : List Reading
   pub issued : List Slot
   pub journal : List Line
-
--- nothing was refused
-abbrev pub isOk : {A : Type 0} → Result A Fault → Bool
-isOk (Ok x) = true
-isOk (Err f) = false
 
 module _ (t : Terms) (m : Meaning) where
   -- a register, and how many holders are held after it
