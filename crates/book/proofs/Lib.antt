@@ -1,4 +1,5 @@
+pub mod Gated
 pub mod Held
+pub mod Receipts
 pub mod Rows
 pub mod Sendings
-pub mod Receipts

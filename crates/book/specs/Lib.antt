@@ -1,6 +1,7 @@
+pub mod Gates
+pub mod Issues
 pub mod Kept
 pub mod Readings
-pub mod Volumes
 pub mod Sharing
 pub mod Statements
-pub mod Issues
+pub mod Volumes

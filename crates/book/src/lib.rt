@@ -6,6 +6,7 @@ ghost use lib.ListN.{length, getD, set, replicate};
 ghost use Rattle.domain.specs.Checks.{settled, noReading, noVolume};
 ghost use Rattle.book.specs.Kept.{kept, opened};
 ghost use Rattle.book.specs.Readings.{blankAnswer, readingAnswer, withReading};
+ghost use Rattle.book.specs.Gates.{GateKept};
 ghost use Rattle.book.specs.Volumes.{volumeAnswer, directed, issuedVolume};
 use domain::Fault;
 use domain::MAX_KWH;
@@ -167,3 +168,8 @@ fn empty_slots(issued: &mut [Slot])
 {
     issued.fill(Slot::NONE);
 }
+
+// A schedule or an end at the gate's minute itself is still in time, and any later one is refused for it.
+pub fn gate_kept()
+    ensures { λ _. ⌜ GateKept ⌝ }
+{}

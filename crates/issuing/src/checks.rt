@@ -27,7 +27,7 @@ use domain::issued_slots;
 use domain::reading_slot;
 
 // Refuses a day with a spoiled reading.
-pub fn sound_readings(readings: &[Reading], day: u16) -> Result<(), Fault>
+pub(crate) fn sound_readings(readings: &[Reading], day: u16) -> Result<(), Fault>
     requires { ⌜ readingSlot day periods < length (now readings) ⌝ }
     ensures { λ r. ⌜ r ≡ unlessFound (firstWhere (λ i. spoiledReading (readingAt (now (readings .entry)) day (i + 1))) periods) (λ _. Spoiled Readings) (Ok tt) ⌝ }
 {
@@ -43,7 +43,7 @@ pub fn sound_readings(readings: &[Reading], day: u16) -> Result<(), Fault>
 }
 
 // Refuses a day with a spoiled slot of what was issued.
-pub fn sound_slots(terms: Terms, issued: &[Slot], day: u16) -> Result<(), Fault>
+pub(crate) fn sound_slots(terms: Terms, issued: &[Slot], day: u16) -> Result<(), Fault>
     requires { ⌜ issuedSlot (terms .places) day 1 0 + issuedSlots (terms .places) 1 ≤ length (now issued) ⌝ }
     ensures { λ r. ⌜ r ≡ unlessFound (firstWhere (λ i. spoiledSlot (slotOfDay terms (now (issued .entry)) day i)) (issuedSlots (terms .places) 1)) (λ _. Spoiled Issued) (Ok tt) ⌝ }
 {
@@ -60,7 +60,7 @@ pub fn sound_slots(terms: Terms, issued: &[Slot], day: u16) -> Result<(), Fault>
 }
 
 // Refuses a day with an empty reading, at its first.
-pub fn complete_readings(readings: &[Reading], day: u16) -> Result<(), Fault>
+pub(crate) fn complete_readings(readings: &[Reading], day: u16) -> Result<(), Fault>
     requires { ⌜ readingSlot day periods < length (now readings) ⌝ }
     ensures { λ r. ⌜ r ≡ unlessFound (firstWhere (λ i. isEmpty (readingAt (now (readings .entry)) day (i + 1))) periods) (λ i. ReadingMissing (i + 1)) (Ok tt) ⌝ }
 {
@@ -74,7 +74,7 @@ pub fn complete_readings(readings: &[Reading], day: u16) -> Result<(), Fault>
 }
 
 // Refuses a day on which a place that needs a holder has none, at the first.
-pub fn complete_holders(
+pub(crate) fn complete_holders(
     terms: Terms,
     holders: &[Option<u16>; PLACES],
     ended: bool,

@@ -30,7 +30,6 @@ mod checks;
 mod lines;
 mod posting;
 mod sheet;
-
 // What the book knows of itself when it issues a day.
 #[derive(Clone, Copy)]
 pub struct Standing {

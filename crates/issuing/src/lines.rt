@@ -54,7 +54,7 @@ fn count_line(volume: i32) -> usize
 }
 
 // How many lines lead a slot from `was` to `next`.
-pub fn count_slot(was: Slot, next: Slot) -> usize
+pub(crate) fn count_slot(was: Slot, next: Slot) -> usize
     requires was { ⌜ Tame (was .volume) ⌝ }
     requires next { ⌜ Tame (next .volume) ⌝ }
     ensures { λ r. ⌜ ((day run p q : ℕ) → r ≡ length (slotLines (lineOf day run p q) was next)) ⌝ }
@@ -67,7 +67,7 @@ pub fn count_slot(was: Slot, next: Slot) -> usize
 }
 
 // Sends the lines that lead a slot from `was` to `next`, and says where the line after them goes.
-pub fn send_slot(journal: &mut [Line], at: usize, heading: Heading, was: Slot, next: Slot) -> usize
+pub(crate) fn send_slot(journal: &mut [Line], at: usize, heading: Heading, was: Slot, next: Slot) -> usize
     requires was { ⌜ Tame (was .volume) ⌝ }
     requires next { ⌜ Tame (next .volume) ⌝ }
     requires room { ⌜ at + length (slotLines (headed heading) was next) ≤ length (now journal) ⌝ }

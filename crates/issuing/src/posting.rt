@@ -94,7 +94,7 @@ impl<R: Rule> Plan<'_, '_, '_, R> {
     }
 
     // How many lines the day takes.
-    pub fn count(self, issued: &[Slot]) -> usize
+    pub(crate) fn count(self, issued: &[Slot]) -> usize
         requires ready { ⌜ Ready self (now issued) ⌝ }
         requires tame { ⌜ TameDay (self .terms) (now issued) (self .day) ⌝ }
         ensures { λ r. ⌜ r ≡ length (linesOf (self .entry .terms) (now (issued .entry)) (planned (R·Rule .meaning (now (self .entry .rule))) (self .entry)) (self .entry .day) (self .entry .run)) ⌝ }
@@ -107,7 +107,7 @@ impl<R: Rule> Plan<'_, '_, '_, R> {
     }
 
     // Sends the lines of the day from `at` on, and has each slot hold what it is to be.
-    pub fn send(self, issued: &mut [Slot], journal: &mut [Line], at: usize)
+    pub(crate) fn send(self, issued: &mut [Slot], journal: &mut [Line], at: usize)
         requires ready { ⌜ Ready self (now issued) ⌝ }
         requires tame { ⌜ TameDay (self .terms) (now issued) (self .day) ⌝ }
         requires room { ⌜ at + length (linesOf (self .terms) (now issued) (planned (R·Rule .meaning (now (self .rule))) self) (self .day) (self .run)) ≤ length (now journal) ⌝ }

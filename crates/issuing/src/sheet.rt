@@ -37,7 +37,7 @@ pub struct Sheet {
 }
 
 // Before the end day every place needs a holder, from it on only place 0.
-pub fn needs_holder(ended: bool, place: u8) -> bool
+pub(crate) fn needs_holder(ended: bool, place: u8) -> bool
     ensures { λ r. ⌜ r ≡ needsHolder ended place ⌝ }
 {
     !ended || place == 0
@@ -163,7 +163,7 @@ fn rows_of<R: Rule>(
 }
 
 // Whether the sharing has ended by a day.
-pub fn is_ended(end: Option<u16>, day: u16) -> bool
+pub(crate) fn is_ended(end: Option<u16>, day: u16) -> bool
     ensures { λ r. ⌜ r ≡ isEnded end day ⌝ }
 {
     match end {
@@ -174,7 +174,7 @@ pub fn is_ended(end: Option<u16>, day: u16) -> bool
 
 impl Sheet {
     // What is in force on a day, refused where a table has less than is held, or where something in force is spoiled.
-    pub fn on_day<R: Rule>(
+    pub(crate) fn on_day<R: Rule>(
         rule: &R,
         terms: Terms,
         standing: Standing,

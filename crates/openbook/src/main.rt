@@ -63,37 +63,84 @@ fn schedule_day<R: Rule>(
     Ok(receipt.confirm())
 }
 
-fn say(rt: &LibcRuntime, step: &str, answer: Result<(), Fault>) -> io::Result<()> {
+fn refused(rt: &LibcRuntime, fault: Fault) -> io::Result<()> {
+    println!(rt, "refused {} {}", fault.number(), fault.spot())
+}
+
+fn answered(rt: &LibcRuntime, answer: Result<(), Fault>) -> io::Result<()> {
     match answer {
-        Ok(()) => println!(rt, "{step}: accepted"),
-        Err(fault) => println!(rt, "{step}: refused {} {}", fault.number(), fault.spot()),
+        Ok(()) => println!(rt, "accepted"),
+        Err(fault) => refused(rt, fault),
     }
 }
 
-fn say_notice(rt: &LibcRuntime, step: &str, answer: Result<[u8; 16], Fault>) -> io::Result<()> {
-    match answer {
-        Ok(notice) => println!(rt, "{step}: notice {}", Hex(&notice)),
-        Err(fault) => println!(rt, "{step}: refused {} {}", fault.number(), fault.spot()),
-    }
-}
-
-fn say_volume(
+fn blank(
     rt: &LibcRuntime,
-    step: &str,
-    answer: Result<Option<(u32, u32)>, Fault>,
+    book: &Book<House>,
+    readings: &mut [Reading],
+    issued: &mut [Slot],
 ) -> io::Result<()> {
-    match answer {
-        Ok(Some((kwh, virtual_kwh))) => println!(rt, "{step}: {kwh} kWh, {virtual_kwh} virtual"),
-        Ok(None) => println!(rt, "{step}: none"),
-        Err(fault) => println!(rt, "{step}: refused {} {}", fault.number(), fault.spot()),
+    print!(rt, "blank: ")?;
+    answered(rt, book.blank(readings, issued))
+}
+
+fn register(
+    rt: &LibcRuntime,
+    book: &mut Book<House>,
+    holders: &mut [Dated<u16>],
+    place: u8,
+    supplier: u16,
+) -> io::Result<()> {
+    print!(rt, "register place {place} day 0 supplier {supplier}: ")?;
+    answered(rt, book.register(holders, place, 0, supplier))
+}
+
+// For day 2.
+fn schedule(
+    rt: &LibcRuntime,
+    book: &mut Book<House>,
+    holders: &[Dated<u16>],
+    rows: &mut [Dated<AllocationRow>],
+    sender: u16,
+    moment: u32,
+) -> io::Result<()> {
+    print!(rt, "schedule by {sender} day 2 minute {moment}: ")?;
+    match schedule_day(book, holders, rows, sender, 2, moment) {
+        Ok(notice) => println!(rt, "notice {}", Hex(&notice)),
+        Err(fault) => refused(rt, fault),
     }
 }
 
-fn main(rt: LibcRuntime) -> io::Result<()> {
-    match Terms::new(2, 3, 60) {
-        Ok(terms) => run(&rt, terms),
-        Err(fault) => say(&rt, "terms of 2 places and 3 days", Err(fault)),
+// In period 13 of day 2.
+fn reading(
+    rt: &LibcRuntime,
+    book: &Book<House>,
+    readings: &mut [Reading],
+    quality: u8,
+    kwh: u32,
+) -> io::Result<()> {
+    print!(rt, "reading day 2 period 13 quality {quality} kWh {kwh}: ")?;
+    answered(rt, book.reading(readings, 2, 13, quality, kwh))
+}
+
+fn volume(rt: &LibcRuntime, book: &Book<House>, issued: &[Slot], place: u8) -> io::Result<()> {
+    print!(rt, "volume day 2 period 13 place {place}: ")?;
+    match book.volume(issued, 2, 13, place) {
+        Ok(Some((kwh, other))) => println!(rt, "{kwh} kWh, {other} virtual"),
+        Ok(None) => println!(rt, "none"),
+        Err(fault) => refused(rt, fault),
     }
+}
+
+fn end(
+    rt: &LibcRuntime,
+    book: &mut Book<House>,
+    holders: &[Dated<u16>],
+    sender: u16,
+    moment: u32,
+) -> io::Result<()> {
+    print!(rt, "end by {sender} day 2 minute {moment}: ")?;
+    answered(rt, book.end(holders, sender, 2, moment))
 }
 
 fn run(rt: &LibcRuntime, terms: Terms) -> io::Result<()> {
@@ -103,43 +150,22 @@ fn run(rt: &LibcRuntime, terms: Terms) -> io::Result<()> {
     let mut rows = [NO_ROW; 144];
     let mut readings = [Reading::NONE; 144];
     let mut issued = [Slot::NONE; 288];
-    say(rt, "blank", book.blank(&mut readings, &mut issued))?;
-    say(
-        rt,
-        "register place 0 day 0 supplier 101",
-        book.register(&mut holders, 0, 0, 101),
-    )?;
-    say(
-        rt,
-        "register place 1 day 0 supplier 102",
-        book.register(&mut holders, 1, 0, 102),
-    )?;
-    let in_time = schedule_day(&mut book, &holders, &mut rows, 101, 2, 4_260);
-    say_notice(rt, "schedule by 101 day 2 minute 4260", in_time)?;
-    let late = schedule_day(&mut book, &holders, &mut rows, 101, 2, 4_261);
-    say_notice(rt, "schedule by 101 day 2 minute 4261", late)?;
-    let other = schedule_day(&mut book, &holders, &mut rows, 102, 2, 4_260);
-    say_notice(rt, "schedule by 102 day 2 minute 4260", other)?;
-    say(
-        rt,
-        "reading day 2 period 13 actual 30",
-        book.reading(&mut readings, 2, 13, 2, 30),
-    )?;
-    say(
-        rt,
-        "reading day 2 period 13 estimated 31",
-        book.reading(&mut readings, 2, 13, 1, 31),
-    )?;
-    say_volume(
-        rt,
-        "volume day 2 period 13 place 0",
-        book.volume(&issued, 2, 13, 0),
-    )?;
-    say(
-        rt,
-        "end by 101 day 2 minute 4260",
-        book.end(&holders, 101, 2, 4_260),
-    )?;
-    let ended = schedule_day(&mut book, &holders, &mut rows, 101, 2, 4_260);
-    say_notice(rt, "schedule by 101 day 2 minute 4260", ended)
+    blank(rt, &book, &mut readings, &mut issued)?;
+    register(rt, &mut book, &mut holders, 0, 101)?;
+    register(rt, &mut book, &mut holders, 1, 102)?;
+    schedule(rt, &mut book, &holders, &mut rows, 101, 4_260)?;
+    schedule(rt, &mut book, &holders, &mut rows, 101, 4_261)?;
+    schedule(rt, &mut book, &holders, &mut rows, 102, 4_260)?;
+    reading(rt, &book, &mut readings, 2, 30)?;
+    reading(rt, &book, &mut readings, 1, 31)?;
+    volume(rt, &book, &issued, 0)?;
+    end(rt, &mut book, &holders, 101, 4_260)?;
+    schedule(rt, &mut book, &holders, &mut rows, 101, 4_260)
+}
+
+fn main(rt: LibcRuntime) -> io::Result<()> {
+    match Terms::new(2, 3, 60) {
+        Ok(terms) => run(&rt, terms),
+        Err(fault) => refused(&rt, fault),
+    }
 }

@@ -5,3 +5,4 @@ pub mod Granted
 pub mod Steps
 pub mod Outcomes
 pub mod Replays
+pub mod Worked

@@ -1,5 +1,6 @@
 // A season: a list of calls, run one after the other on one book.
 ghost use Rattle.season.specs.Granted.{LinesAddUp};
+ghost use Rattle.season.specs.Worked.{WorkedExamples};
 ghost use mathlib.Core.Path.{_≡_};
 ghost use Rattle.book.specs.Kept.{kept, opened};
 ghost use Rattle.season.specs.Steps.{step};
@@ -74,6 +75,11 @@ pub enum Call<'a> {
         run: u8,
     },
 }
+
+// The definitions give the half hours and the corrections that were worked by hand.
+pub fn worked_examples()
+    ensures { λ _. ⌜ WorkedExamples ⌝ }
+{}
 
 // After every run of calls whose issues found their day ready, the lines add up.
 pub fn lines_add_up()
