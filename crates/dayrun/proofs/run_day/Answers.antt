@@ -4,6 +4,8 @@ use Rattle.book.specs.Kept.{kept}
 use Rattle.season.specs.Outcomes.{stateOf}
 use Rattle.dayrun.specs.Calls.{readingAll, daySent, siteTerms}
 use Rattle.dayrun.specs.Files.{readingsIn}
+use Rattle.domain.specs.declared.terms.Terms.{Terms}
+use Rattle.dayrun.proofs.Site.{same-terms}
 use Rattle.dayrun.proofs.Chain.{register-ok, register-err, schedule-ok, schedule-err, issue-ends, day-first, day-second, day-third, day-agreed}
 use Rattle.dayrun.proofs.run_day.Needs as need
 
@@ -17,7 +19,8 @@ returns-in-Break-register c =
     let J = c .args .journal .now in
     let rs = readingsIn (f .readings .readings .now) in
     let sch = c .args .schedule .now in
-    let t0 : b0 .terms ≡ siteTerms = c .open-book .ensures .of .0 in
+    let of = c .open-book .ensures .of .0 in
+    let t0 : b0 .terms ≡ siteTerms = same-terms (b0 .terms) siteTerms (ap (λ (t : Terms). t .places) of) (ap (λ (t : Terms). t .days) of) (ap (λ (t : Terms). t .capacity) of) in
     let s0 = stateOf (kept b0) (c .args .holders .now) (c .args .rows .now) D I J in
     let begun = ap (λ k. daySent siteTerms (stateOf k (c .args .holders .now) (c .args .rows .now) D I J) (f .schedule .sender) (f .schedule .day) (f .schedule .moment) sch rs) (c .open-book .ensures .keeps) in
     rw (p .1, p .2) (day-first siteTerms s0 (f .schedule .sender) (f .schedule .day) (f .schedule .moment) sch rs (register-err siteTerms (b0 .terms) t0 s0 0 0 101 (c .in-Break-register .ensures tt .answer)) ∙ begun)
@@ -32,7 +35,8 @@ returns-in-Break-register-2 c =
     let J = c .args .journal .now in
     let rs = readingsIn (f .readings .readings .now) in
     let sch = c .args .schedule .now in
-    let t0 : b0 .terms ≡ siteTerms = c .open-book .ensures .of .0 in
+    let of = c .open-book .ensures .of .0 in
+    let t0 : b0 .terms ≡ siteTerms = same-terms (b0 .terms) siteTerms (ap (λ (t : Terms). t .places) of) (ap (λ (t : Terms). t .days) of) (ap (λ (t : Terms). t .capacity) of) in
     let s0 = stateOf (kept b0) (c .args .holders .now) (c .args .rows .now) D I J in
     let begun = ap (λ k. daySent siteTerms (stateOf k (c .args .holders .now) (c .args .rows .now) D I J) (f .schedule .sender) (f .schedule .day) (f .schedule .moment) sch rs) (c .open-book .ensures .keeps) in
     let b1 = c .register .last .self in
@@ -51,7 +55,8 @@ returns-in-Break-receipt c =
     let J = c .args .journal .now in
     let rs = readingsIn (f .readings .readings .now) in
     let sch = c .args .schedule .now in
-    let t0 : b0 .terms ≡ siteTerms = c .open-book .ensures .of .0 in
+    let of = c .open-book .ensures .of .0 in
+    let t0 : b0 .terms ≡ siteTerms = same-terms (b0 .terms) siteTerms (ap (λ (t : Terms). t .places) of) (ap (λ (t : Terms). t .days) of) (ap (λ (t : Terms). t .capacity) of) in
     let s0 = stateOf (kept b0) (c .args .holders .now) (c .args .rows .now) D I J in
     let begun = ap (λ k. daySent siteTerms (stateOf k (c .args .holders .now) (c .args .rows .now) D I J) (f .schedule .sender) (f .schedule .day) (f .schedule .moment) sch rs) (c .open-book .ensures .keeps) in
     let b1 = c .register .last .self in
@@ -74,7 +79,8 @@ returns-in-Break-put-readings c =
     let J = c .args .journal .now in
     let rs = readingsIn (f .readings .readings .now) in
     let sch = c .args .schedule .now in
-    let t0 : b0 .terms ≡ siteTerms = c .open-book .ensures .of .0 in
+    let of = c .open-book .ensures .of .0 in
+    let t0 : b0 .terms ≡ siteTerms = same-terms (b0 .terms) siteTerms (ap (λ (t : Terms). t .places) of) (ap (λ (t : Terms). t .days) of) (ap (λ (t : Terms). t .capacity) of) in
     let s0 = stateOf (kept b0) (c .args .holders .now) (c .args .rows .now) D I J in
     let begun = ap (λ k. daySent siteTerms (stateOf k (c .args .holders .now) (c .args .rows .now) D I J) (f .schedule .sender) (f .schedule .day) (f .schedule .moment) sch rs) (c .open-book .ensures .keeps) in
     let b1 = c .register .last .self in
@@ -101,7 +107,8 @@ returns c =
     let J = c .args .journal .now in
     let rs = readingsIn (f .readings .readings .now) in
     let sch = c .args .schedule .now in
-    let t0 : b0 .terms ≡ siteTerms = c .open-book .ensures .of .0 in
+    let of = c .open-book .ensures .of .0 in
+    let t0 : b0 .terms ≡ siteTerms = same-terms (b0 .terms) siteTerms (ap (λ (t : Terms). t .places) of) (ap (λ (t : Terms). t .days) of) (ap (λ (t : Terms). t .capacity) of) in
     let s0 = stateOf (kept b0) (c .args .holders .now) (c .args .rows .now) D I J in
     let begun = ap (λ k. daySent siteTerms (stateOf k (c .args .holders .now) (c .args .rows .now) D I J) (f .schedule .sender) (f .schedule .day) (f .schedule .moment) sch rs) (c .open-book .ensures .keeps) in
     let b1 = c .register .last .self in
