@@ -1,5 +1,5 @@
 -- The two files of the input.
-use mathlib.Core.Path.{_≡_, refl, sym, ap, _∙_}
+use mathlib.Core.Path.{_≡_, ap, _∙_}
 use mathlib.Core.List.{List}
 use Prim.Native.Nat.{ℕ}
 use lib.ListN.{take, drop}
@@ -8,7 +8,7 @@ use Rattle.std.specs.declared.result.Result.the-variants.{Ok, Err}
 use Rattle.domain.specs.Checks.{andThen}
 use Rattle.domain.specs.declared.Fault.{Fault}
 use Rattle.files.specs.Reads.{Told}
-use Rattle.dayrun.specs.Files.{Files, filesRead, readAs, taken, scheduleBytes}
+use Rattle.dayrun.specs.Files.{filesRead, readAs, taken, scheduleBytes}
 
 module _ (input all first rest : List ℕ) (ea : all ≡ taken input) (ef : first ≡ take scheduleBytes all) where
   start : readAs 1 first ≡ readAs 1 (take scheduleBytes (taken input))

@@ -5,7 +5,7 @@ use native.Mathlib.Omega.{arith}
 use lib.IntN.{pos}
 use lib.ListN.{replicate, take}
 use Rattle.std.specs.declared.result.Result.{Result}
-use Rattle.std.specs.declared.result.Result.the-variants.{Ok, Err}
+use Rattle.std.specs.declared.result.Result.the-variants.{Ok}
 use Rattle.domain.specs.Checks.{andThen, noReading, noVolume}
 use Rattle.domain.specs.Lines.{lineOf}
 use Rattle.domain.specs.declared.AllocationRow.{AllocationRow}
