@@ -132,7 +132,7 @@ fn put_readings(
     table: &mut [Reading],
     file: ReadingsFile<'_>,
 ) -> Result<(), Fault>
-    ensures { λ r. ⌜ seenBy (λ _. now (table .exit)) r ≡ readingAll (now (book .entry) .terms) (kept (now (book .entry))) (now (table .entry)) (readingsIn (now (file .entry .readings))) ⌝ }
+    ensures { λ r. ⌜ seenBy (λ _. now (table .exit)) r ≡ readingAll (now (book .entry) .terms) (kept (now (book .entry))) (now (table .entry)) (readingsIn (now (file .entry .records))) ⌝ }
 {
     let mut index = 0;
     while let Some(reading) = file.reading(index) {
@@ -158,7 +158,7 @@ fn run_day(
     files: DayFiles<'_>,
     schedule: &[AllocationRow],
 ) -> Result<usize, Fault>
-    ensures { λ r. ⌜ seenBy (λ sent. take sent (now (journal .exit))) r ≡ daySent siteTerms (stateOf opened (now (holders .entry)) (now (rows .entry)) (now (readings .entry)) (now (issued .entry)) (now (journal .entry))) (files .entry .schedule .sender) (files .entry .schedule .day) (files .entry .schedule .moment) (now (schedule .entry)) (readingsIn (now (files .entry .readings .readings))) ⌝ }
+    ensures { λ r. ⌜ seenBy (λ sent. take sent (now (journal .exit))) r ≡ daySent siteTerms (stateOf opened (now (holders .entry)) (now (rows .entry)) (now (readings .entry)) (now (issued .entry)) (now (journal .entry))) (files .entry .schedule .sender) (files .entry .schedule .day) (files .entry .schedule .moment) (now (schedule .entry)) (readingsIn (now (files .entry .readings .records))) ⌝ }
 {
     let ScheduleFile {
         sender,
@@ -220,7 +220,7 @@ fn put_answer(text: &mut String, journal: &[Line], answer: Result<usize, Fault>)
 
 // Runs the day on blank tables, and adds what comes of it to the text.
 fn put_day(text: &mut String, files: DayFiles<'_>, schedule: &[AllocationRow]) -> fmt::Result
-    ensures { λ r. ⌜ made r (λ _. string-bytes (now (text .exit)) ≡ string-bytes (now (text .entry)) ++ answerText (daySent siteTerms start (files .entry .schedule .sender) (files .entry .schedule .day) (files .entry .schedule .moment) (now (schedule .entry)) (readingsIn (now (files .entry .readings .readings))))) ⌝ }
+    ensures { λ r. ⌜ made r (λ _. string-bytes (now (text .exit)) ≡ string-bytes (now (text .entry)) ++ answerText (daySent siteTerms start (files .entry .schedule .sender) (files .entry .schedule .day) (files .entry .schedule .moment) (now (schedule .entry)) (readingsIn (now (files .entry .readings .records))))) ⌝ }
 {
     let mut holders = [NO_HOLDER; 2];
     let mut rows = [NO_ROW; 48];

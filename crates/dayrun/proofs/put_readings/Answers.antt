@@ -12,14 +12,14 @@ use Rattle.dayrun.proofs.put_readings.Needs as need
 
 pub loop-reading-less : need.loop-reading-less
 loop-reading-less c =
-    let bs = c .args .file .readings .now in
+    let bs = c .args .file .records .now in
     let long = length-unpacked decodedReading readingSize (length bs / readingSize) bs in
     let below = nth-below (readingsIn bs) (c .loop-reading .index) (c .in-Some .reading) (sym (c .in-Some .ensures tt)) in
     omega arith
 
 pub loop-reading-again : need.loop-reading-again
 loop-reading-again c =
-    let bs = c .args .file .readings .now in
+    let bs = c .args .file .records .now in
     let long = length-unpacked decodedReading readingSize (length bs / readingSize) bs in
     let below = nth-below (readingsIn bs) (c .loop-reading .index) (c .in-Some .reading) (sym (c .in-Some .ensures tt)) in (
       omega arith,
@@ -29,9 +29,9 @@ loop-reading-again c =
 pub returns-in-Break-reading : need.returns-in-Break-reading
 returns-in-Break-reading c =
     let p = err-from-errBy (c .from-residual .result) (c .from-residual .ensures .1) in
-    rw (p .1, p .2) (reading-stop _ _ (c .loop-reading .table) (readingsIn (c .args .file .readings .now)) (c .loop-reading .index) (c .in-Some .reading) (sym (c .in-Some .ensures tt)) (c .loop-reading .inv .1) (c .in-Break-reading .ensures tt .answer))
+    rw (p .1, p .2) (reading-stop _ _ (c .loop-reading .table) (readingsIn (c .args .file .records .now)) (c .loop-reading .index) (c .in-Some .reading) (sym (c .in-Some .ensures tt)) (c .loop-reading .inv .1) (c .in-Break-reading .ensures tt .answer))
 
 pub returns : need.returns
 returns c =
-    let bs = c .args .file .readings .now in
+    let bs = c .args .file .records .now in
     reading-end _ _ (c .loop-reading .table) (readingsIn bs) (c .loop-reading .index) (sym (c .in-rest .ensures tt)) (c .loop-reading .inv .1)

@@ -10,8 +10,8 @@ use Rattle.dayrun.proofs.put_readings.Given as given
 
 abbrev pub Inv-loop-reading : given.InvT-loop-reading
 Inv-loop-reading l =
-    (l .index ≤ length (now (l .file .readings)) / readingSize)
-    × (readingAll (l .book .terms) (kept (l .book)) (l .table) (drop (l .index) (readingsIn (now (l .file .readings)))) ≡ readingAll (l .book .terms) (kept (l .book)) (l .entry .table) (readingsIn (now (l .file .readings))))
+    (l .index ≤ length (now (l .file .records)) / readingSize)
+    × (readingAll (l .book .terms) (kept (l .book)) (l .table) (drop (l .index) (readingsIn (now (l .file .records)))) ≡ readingAll (l .book .terms) (kept (l .book)) (l .entry .table) (readingsIn (now (l .file .records))))
 
 abbrev pub μ-loop-reading : given.MeasureT-loop-reading
-μ-loop-reading l = length (now (l .file .readings)) / readingSize - l .index
+μ-loop-reading l = length (now (l .file .records)) / readingSize - l .index
