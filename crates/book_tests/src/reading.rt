@@ -1,4 +1,4 @@
-// Readings: 8, 11, 13, 17. That a day is closed (16) cannot be met yet, since no call closes one.
+// Readings: 8, 11, 13, 17. That a day is closed (16) needs an issue, and is tested with the issue.
 use crate::helpers::READINGS;
 use crate::helpers::Refusal;
 use crate::helpers::Wrong;

@@ -1,4 +1,4 @@
-// Statements: 8, 12. A journal shorter than the lines sent (13) cannot be met yet, since no call sends a line.
+// Statements: 8, 12. A journal shorter than the lines sent (13) needs an issue, and is tested with the issue.
 use crate::helpers::Refusal;
 use crate::helpers::open;
 use crate::helpers::refusal;
