@@ -49,7 +49,10 @@ mod tests {
 
     // Holders, a schedule, a day of readings with 30 kWh in period 13, and an issue;
     // then 20 kWh are read there, and then place 1 passes to 103, with an issue after each.
-    fn season<'a>(calls: &mut [Call<'a>; 56], rows: &'a [AllocationRow]) {
+    fn season<'a>(calls: &mut [Call<'a>], rows: &'a [AllocationRow]) {
+        if calls.len() < 56 {
+            return;
+        }
         for period in 1..49u8 {
             calls[2 + usize::from(period)] = Call::Reading {
                 day: 0,
