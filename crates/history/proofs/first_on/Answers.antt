@@ -11,14 +11,14 @@ loop-i-init g c = refl
 
 pub loop-i-preserved : goal.loop-i-preserved
 loop-i-preserved g c =
-    found_more c.args.entries.now c.loop-i.i c.index-entries-i.result c.args.subject c.args.day c.loop-i-test.true c.index-entries-i.is c.loop-i.invariant (sym c.if-is-on.ensures)
+    found_more c.args.entries.now c.loop-i.i c.index-entries-i.result c.args.subject c.args.day c.loop-i-test.true c.index-entries-i.is c.loop-i.invariant (sym c.if-is_on.ensures)
 
-pub returns-then-is-on : goal.returns-then-is-on
-returns-then-is-on g c =
+pub returns-then-is_on : goal.returns-then-is_on
+returns-then-is_on g c =
     let t = c.args.entries.now in
     let i = c.loop-i.i in
     let x = c.index-entries-i.result in
-    sym (found_here t i x c.args.subject c.args.day (slice_get_read t (length t) i x refl c.loop-i-test.true c.index-entries-i.is) c.loop-i.invariant (sym c.if-is-on.ensures))
+    sym (found_here t i x c.args.subject c.args.day (slice_get_read t (length t) i x refl c.loop-i-test.true c.index-entries-i.is) c.loop-i.invariant (sym c.if-is_on.ensures))
 
 pub returns : goal.returns
 returns g c =

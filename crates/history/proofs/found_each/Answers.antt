@@ -22,8 +22,8 @@ loop-i-preserved g c =
     let within = c.loop-i-test.true in
     let is = c.index-entries-i.is in
     let inv = c.loop-i.invariant.0 in
-    let of = sym c.is-of-period-on.ensures in
-    elim c.if-on.branch [ then-on w ↦ let on : of_period d x ≡ true = of ∙ w.if-on.true in let some : 1 ≤ x.subject = grind (arith, nat_tests) in let few : x.subject ≤ periods = grind (arith, nat_tests) in let j = w.from-k.result - 1 in let at : x.subject ≡ j + 1 = omega (arith, w.from-k.ensures) in let new : c.if-on.at ≡ set a j (or_else (get_or a j None) (Some i)) = w.at-is ∙ ap (set a j) w.or-first.ensures in rw new (found_here t i x d within is a inv j at on (omega (arith, c.loop-i.invariant.1)), length-set a j (or_else (get_or a j None) (Some i)) ∙ c.loop-i.invariant.1) | else-on w ↦ rw w.at-is (found_passed t i x d within is a inv (of ∙ w.if-on.false), c.loop-i.invariant.1) ]
+    let of = sym c.is_of_period-on.ensures in
+    elim c.if-on.branch [ then-on w ↦ let on : of_period d x ≡ true = of ∙ w.if-on.true in let some : 1 ≤ x.subject = grind (arith, nat_tests) in let few : x.subject ≤ periods = grind (arith, nat_tests) in let j = w.from-k.result - 1 in let at : x.subject ≡ j + 1 = omega (arith, w.from-k.ensures) in let new : c.if-on.at ≡ set a j (or_else (get_or a j None) (Some i)) = w.at-is ∙ ap (set a j) w.or_first.ensures in rw new (found_here t i x d within is a inv j at on (omega (arith, c.loop-i.invariant.1)), length-set a j (or_else (get_or a j None) (Some i)) ∙ c.loop-i.invariant.1) | else-on w ↦ rw w.at-is (found_passed t i x d within is a inv (of ∙ w.if-on.false), c.loop-i.invariant.1) ]
 
 pub returns : goal.returns
 returns g c =

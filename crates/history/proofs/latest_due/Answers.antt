@@ -21,8 +21,8 @@ loop-i-preserved g c =
     let D = c.loop-i.latest in
     let within = c.loop-i-test.true in
     let is = c.index-entries-i.is in
-    let due = sym c.is-due-due.ensures in
-    elim c.if-due.branch [ then-due+then-later w ↦ so_far_took t i x s d within is b D c.loop-i.invariant (due ∙ w.if-due.true) (sym w.is-later-later.ensures ∙ w.if-later.true) w.best-is w.latest-is | then-due+else-later w ↦ so_far_kept t i x s d within is b D c.loop-i.invariant (and_right _ _ (sym w.is-later-later.ensures ∙ w.if-later.false)) w.best-is w.latest-is | else-due w ↦ so_far_kept t i x s d within is b D c.loop-i.invariant (and_left _ _ (due ∙ w.if-due.false)) w.best-is w.latest-is ]
+    let due = sym c.is_due-due.ensures in
+    elim c.if-due.branch [ then-due+then-later w ↦ so_far_took t i x s d within is b D c.loop-i.invariant (due ∙ w.if-due.true) (sym w.is_later-later.ensures ∙ w.if-later.true) w.best-is w.latest-is | then-due+else-later w ↦ so_far_kept t i x s d within is b D c.loop-i.invariant (and_right _ _ (sym w.is_later-later.ensures ∙ w.if-later.false)) w.best-is w.latest-is | else-due w ↦ so_far_kept t i x s d within is b D c.loop-i.invariant (and_left _ _ (due ∙ w.if-due.false)) w.best-is w.latest-is ]
 
 pub returns : goal.returns
 returns g c =

@@ -23,8 +23,8 @@ loop-i-preserved g c =
     let within = c.loop-i-test.true in
     let is = c.index-entries-i.is in
     let inv = c.loop-i.invariant.0 in
-    let due = sym c.is-for-period-due.ensures in
-    elim c.if-due.branch [ then-due+then-later w ↦ let on : for_period d x ≡ true = due ∙ w.if-due.true in let some : 1 ≤ x.subject = grind (arith, nat_tests) in let few : x.subject ≤ periods = grind (arith, nat_tests) in let j = w.from-k.result - 1 in let at : x.subject ≡ j + 1 = omega (arith, w.from-k.ensures) in rw (w.best-is, w.latest-is) (each_took t i x d within is b L inv j at on (sym w.is-later-later.ensures ∙ w.if-later.true) (omega (arith, c.loop-i.invariant.1)) (omega (arith, c.loop-i.invariant.2)), length-set b j (Some i) ∙ c.loop-i.invariant.1, length-set L j x.day ∙ c.loop-i.invariant.2) | then-due+else-later w ↦ let on : for_period d x ≡ true = due ∙ w.if-due.true in let some : 1 ≤ x.subject = grind (arith, nat_tests) in let j = w.from-k.result - 1 in let at : x.subject ≡ j + 1 = omega (arith, w.from-k.ensures) in rw (w.best-is, w.latest-is) (each_kept t i x d within is b L inv j at on (sym w.is-later-later.ensures ∙ w.if-later.false), c.loop-i.invariant.1, c.loop-i.invariant.2) | else-due w ↦ rw (w.best-is, w.latest-is) (each_passed t i x d within is b L inv (due ∙ w.if-due.false), c.loop-i.invariant.1, c.loop-i.invariant.2) ]
+    let due = sym c.is_for_period-due.ensures in
+    elim c.if-due.branch [ then-due+then-later w ↦ let on : for_period d x ≡ true = due ∙ w.if-due.true in let some : 1 ≤ x.subject = grind (arith, nat_tests) in let few : x.subject ≤ periods = grind (arith, nat_tests) in let j = w.from-k.result - 1 in let at : x.subject ≡ j + 1 = omega (arith, w.from-k.ensures) in rw (w.best-is, w.latest-is) (each_took t i x d within is b L inv j at on (sym w.is_later-later.ensures ∙ w.if-later.true) (omega (arith, c.loop-i.invariant.1)) (omega (arith, c.loop-i.invariant.2)), length-set b j (Some i) ∙ c.loop-i.invariant.1, length-set L j x.day ∙ c.loop-i.invariant.2) | then-due+else-later w ↦ let on : for_period d x ≡ true = due ∙ w.if-due.true in let some : 1 ≤ x.subject = grind (arith, nat_tests) in let j = w.from-k.result - 1 in let at : x.subject ≡ j + 1 = omega (arith, w.from-k.ensures) in rw (w.best-is, w.latest-is) (each_kept t i x d within is b L inv j at on (sym w.is_later-later.ensures ∙ w.if-later.false), c.loop-i.invariant.1, c.loop-i.invariant.2) | else-due w ↦ rw (w.best-is, w.latest-is) (each_passed t i x d within is b L inv (due ∙ w.if-due.false), c.loop-i.invariant.1, c.loop-i.invariant.2) ]
 
 pub returns : goal.returns
 returns g c =

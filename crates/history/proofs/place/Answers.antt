@@ -2,8 +2,8 @@ use Rattle.std.proofs.Common.{◌<◌, length, sym, ◌∙◌, arith, rules}
 use Rattle.history.proofs.Placing.{found_in_table, put_over, put_behind}
 use Rattle.history.proofs.place.Goals as goal
 
-pub offset-bounds-entries-i : goal.offset-bounds-entries-i
-offset-bounds-entries-i g c =
+pub offset_bounds-entries-i : goal.offset_bounds-entries-i
+offset_bounds-entries-i g c =
     let within : c.in-Some.i < length c.args.entries.now = found_in_table c.args.entries.now c.args.count c.args.dated c.requires.held c.args.dated.subject c.args.dated.day c.in-Some.i (sym c.requires.at ∙ c.in-Some.is) in
     search rules
 

@@ -8,31 +8,31 @@ use Rattle.issuing.proofs.Stages.{granted}
 use Rattle.issuing.proofs.Answered.{tame_slot, lines_same, slots_same, refused_before, refused_room, sends}
 use Rattle.issuing.proofs.issue.Goals as goal
 
-pub returns-in-err-sheet : goal.returns-in-err-sheet
-returns-in-err-sheet g c =
-    let p = err_from_is_err_and c.from-residual.result c.from-residual.ensures.1 in
+pub returns-in_err-sheet : goal.returns-in_err-sheet
+returns-in_err-sheet g c =
+    let p = err_from_is_err_and c.from_residual.result c.from_residual.ensures.1 in
     rw (p.1, p.2) (record {
-      answer = refused_before (g.R.Rule.meaning c.args.rule.now) c.args.terms c.args.standing c.args.holders.now c.args.rows.now c.args.readings.now c.args.issued.now (length c.args.journal.now) c.args.day c.args.run c.in-err-sheet.field-0.0 c.in-err-sheet.ensures;
+      answer = refused_before (g.R.Rule.meaning c.args.rule.now) c.args.terms c.args.standing c.args.holders.now c.args.rows.now c.args.readings.now c.args.issued.now (length c.args.journal.now) c.args.day c.args.run c.in_err-sheet.field-0.0 c.in_err-sheet.ensures;
       issued = refl;
       journal = refl;
     })
 
 pub count-new-requires : goal.count-new-requires
 count-new-requires g c =
-    let checks = (granted (g.R.Rule.meaning c.args.rule.now) c.args.terms c.args.standing c.args.holders.now c.args.rows.now c.args.readings.now c.args.issued.now (length c.args.journal.now) c.args.day c.args.run (Ok tt) (sym c.in-ok-sheet.ensures.passed)).0 in
+    let checks = (granted (g.R.Rule.meaning c.args.rule.now) c.args.terms c.args.standing c.args.holders.now c.args.rows.now c.args.readings.now c.args.issued.now (length c.args.journal.now) c.args.day c.args.run (Ok tt) (sym c.in_ok-sheet.ensures.passed)).0 in
     record {
       ready = record { day = checks.is_day; meter = checks.meter; slots = checks.slots };
       tame = λ p q low high l. tame_slot _ (checks.sound_slot p q low high l);
     }
 
-pub overflow-sub-short : goal.overflow-sub-short
-overflow-sub-short g c = (granted (g.R.Rule.meaning c.args.rule.now) c.args.terms c.args.standing c.args.holders.now c.args.rows.now c.args.readings.now c.args.issued.now (length c.args.journal.now) c.args.day c.args.run (Ok tt) (sym c.in-ok-sheet.ensures.passed)).0.journal
+pub overflow_sub-short : goal.overflow_sub-short
+overflow_sub-short g c = (granted (g.R.Rule.meaning c.args.rule.now) c.args.terms c.args.standing c.args.holders.now c.args.rows.now c.args.readings.now c.args.issued.now (length c.args.journal.now) c.args.day c.args.run (Ok tt) (sym c.in_ok-sheet.ensures.passed)).0.journal
 
-pub overflow-add-result : goal.overflow-add-result
-overflow-add-result g c =
-    let ready = c.in-ok-sheet.ensures in
+pub overflow_add-result : goal.overflow_add-result
+overflow_add-result g c =
+    let ready = c.in_ok-sheet.ensures in
     let t = c.args.terms in
-    let next = slot_by (g.R.Rule.meaning c.args.rule.now) t c.in-ok-sheet.sheet c.args.readings.now c.args.day in
+    let next = slot_by (g.R.Rule.meaning c.args.rule.now) t c.in_ok-sheet.sheet c.args.readings.now c.args.day in
     let held = (granted (g.R.Rule.meaning c.args.rule.now) c.args.terms c.args.standing c.args.holders.now c.args.rows.now c.args.readings.now c.args.issued.now (length c.args.journal.now) c.args.day c.args.run (Ok tt) (sym ready.passed)).0.journal in
     let cells : (2 * t.places) * 48 ≤ 16 * 48 = mul-le (2 * t.places) 48 16 48 (omega (arith, t.few)) (omega arith) in
     let most : c.count-new.result ≤ 768 = omega (arith, c.count-new.ensures, day_most t next c.args.day c.args.run c.args.issued.now 48) in
@@ -41,8 +41,8 @@ overflow-add-result g c =
 
 pub returns-then-short : goal.returns-then-short
 returns-then-short g c =
-    let ready = c.in-ok-sheet.ensures in
-    let lines = lines_same (g.R.Rule.meaning c.args.rule.now) c.args.terms c.args.standing c.args.holders.now c.args.rows.now c.args.readings.now c.args.day c.in-ok-sheet.sheet ready.suppliers ready.splits c.args.issued.now c.args.run in
+    let ready = c.in_ok-sheet.ensures in
+    let lines = lines_same (g.R.Rule.meaning c.args.rule.now) c.args.terms c.args.standing c.args.holders.now c.args.rows.now c.args.readings.now c.args.day c.in_ok-sheet.sheet ready.suppliers ready.splits c.args.issued.now c.args.run in
     let held = (granted (g.R.Rule.meaning c.args.rule.now) c.args.terms c.args.standing c.args.holders.now c.args.rows.now c.args.readings.now c.args.issued.now (length c.args.journal.now) c.args.day c.args.run (Ok tt) (sym ready.passed)).0.journal in
     record {
       answer = refused_room (g.R.Rule.meaning c.args.rule.now) c.args.terms c.args.standing c.args.holders.now c.args.rows.now c.args.readings.now c.args.issued.now (length c.args.journal.now) c.args.day c.args.run ready.passed c.count-new.result (c.count-new.ensures ∙ ap length lines) (omega (arith, c.if-short.true));
@@ -52,7 +52,7 @@ returns-then-short g c =
 
 pub send-requires : goal.send-requires
 send-requires g c =
-    let ready = c.in-ok-sheet.ensures in
+    let ready = c.in_ok-sheet.ensures in
     let checks = (granted (g.R.Rule.meaning c.args.rule.now) c.args.terms c.args.standing c.args.holders.now c.args.rows.now c.args.readings.now c.args.issued.now (length c.args.journal.now) c.args.day c.args.run (Ok tt) (sym ready.passed)).0 in
     record {
       ready = record { day = checks.is_day; meter = checks.meter; slots = checks.slots };
@@ -62,11 +62,11 @@ send-requires g c =
 
 pub returns : goal.returns
 returns g c =
-    let ready = c.in-ok-sheet.ensures in
-    let lines = lines_same (g.R.Rule.meaning c.args.rule.now) c.args.terms c.args.standing c.args.holders.now c.args.rows.now c.args.readings.now c.args.day c.in-ok-sheet.sheet ready.suppliers ready.splits c.args.issued.now c.args.run in
+    let ready = c.in_ok-sheet.ensures in
+    let lines = lines_same (g.R.Rule.meaning c.args.rule.now) c.args.terms c.args.standing c.args.holders.now c.args.rows.now c.args.readings.now c.args.day c.in_ok-sheet.sheet ready.suppliers ready.splits c.args.issued.now c.args.run in
     let held = (granted (g.R.Rule.meaning c.args.rule.now) c.args.terms c.args.standing c.args.holders.now c.args.rows.now c.args.readings.now c.args.issued.now (length c.args.journal.now) c.args.day c.args.run (Ok tt) (sym ready.passed)).0.journal in
     record {
       answer = sends (g.R.Rule.meaning c.args.rule.now) c.args.terms c.args.standing c.args.holders.now c.args.rows.now c.args.readings.now c.args.issued.now (length c.args.journal.now) c.args.day c.args.run ready.passed c.count-new.result (c.count-new.ensures ∙ ap length lines) (omega (arith, c.if-short.false));
-      issued = c.send.ensures.issued ∙ slots_same (g.R.Rule.meaning c.args.rule.now) c.args.terms c.args.standing c.args.holders.now c.args.rows.now c.args.readings.now c.args.day c.in-ok-sheet.sheet ready.suppliers ready.splits c.args.issued.now;
+      issued = c.send.ensures.issued ∙ slots_same (g.R.Rule.meaning c.args.rule.now) c.args.terms c.args.standing c.args.holders.now c.args.rows.now c.args.readings.now c.args.day c.in_ok-sheet.sheet ready.suppliers ready.splits c.args.issued.now;
       journal = c.send.ensures.journal ∙ ap (posted c.args.journal.now c.args.standing.lines) lines;
     }

@@ -2,11 +2,11 @@ use Rattle.std.proofs.Common.{mul-le-mul_right, arith}
 use Rattle.std.proofs.lemmas.Bool.Decides.{nat_tests}
 use Rattle.recount.proofs.nearest_share.Goals as goal
 
-pub overflow-mul-target-2 : goal.overflow-mul-target-2
-overflow-mul-target-2 c = omega (arith, mul-le-mul_right c.args.energy c.requires)
+pub overflow_mul-target-2 : goal.overflow_mul-target-2
+overflow_mul-target-2 c = omega (arith, mul-le-mul_right c.args.energy c.requires)
 
-pub overflow-add-target : goal.overflow-add-target
-overflow-add-target c = let x = mul-le-mul_right c.args.energy c.requires in grind (arith, nat_tests)
+pub overflow_add-target : goal.overflow_add-target
+overflow_add-target c = let x = mul-le-mul_right c.args.energy c.requires in grind (arith, nat_tests)
 
 pub loop-high-init : goal.loop-high-init
 loop-high-init c = let x = mul-le-mul_right c.args.energy c.requires in (omega arith, omega arith, omega arith, grind (arith, nat_tests))

@@ -7,11 +7,11 @@ use Rattle.rules.proofs.modest_sum.Goals as goal
 pub loop-nomination-preserved : goal.loop-nomination-preserved
 loop-nomination-preserved c =
     let more = sum_by_more (λ x. x) c.args.nominations.now c.loop-nomination.nomination-index 0 c.loop-nomination-test.true in
-    (omega arith, omega arith, below_more _ _ c.loop-nomination.invariant.2 c.if-nomination-gt-MAX-KWH.false)
+    (omega arith, omega arith, below_more _ _ c.loop-nomination.invariant.2 c.if-nomination-gt-MAX_KWH.false)
 
-pub returns-then-nomination-gt-MAX-KWH : goal.returns-then-nomination-gt-MAX-KWH
-returns-then-nomination-gt-MAX-KWH c =
-    rw (immodest c.args.nominations.now c.loop-nomination.nomination-index c.if-nomination-gt-MAX-KWH.true)
+pub returns-then-nomination-gt-MAX_KWH : goal.returns-then-nomination-gt-MAX_KWH
+returns-then-nomination-gt-MAX_KWH c =
+    rw (immodest c.args.nominations.now c.loop-nomination.nomination-index c.if-nomination-gt-MAX_KWH.true)
 
 pub returns : goal.returns
 returns c =

@@ -3,11 +3,11 @@ use Rattle.std.proofs.lemmas.Bool.Decides.{nat_tests}
 use Rattle.rules.specs.Paired.{nearest_le}
 use Rattle.rules.proofs.rounded.Goals as goal
 
-pub overflow-cast-kwh : goal.overflow-cast-kwh
-overflow-cast-kwh c = omega (arith, mul-le-mul_right c.args.energy c.requires)
+pub overflow_cast-kwh : goal.overflow_cast-kwh
+overflow_cast-kwh c = omega (arith, mul-le-mul_right c.args.energy c.requires)
 
-pub overflow-add-result : goal.overflow-add-result
-overflow-add-result c = omega (arith, mul-le-mul_right c.args.energy c.requires)
+pub overflow_add-result : goal.overflow_add-result
+overflow_add-result c = omega (arith, mul-le-mul_right c.args.energy c.requires)
 
 pub returns-then-odd : goal.returns-then-odd
 returns-then-odd c =

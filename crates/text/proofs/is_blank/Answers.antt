@@ -7,6 +7,6 @@ pub returns-in-32 : goal.returns-in-32
 unfolding blank
 returns-in-32 c = grind (arith, nat_tests)
 
-pub returns-in-default : goal.returns-in-default
+pub returns-in_default : goal.returns-in_default
 unfolding blank
-returns-in-default c = grind (arith, nat_tests)
+returns-in_default c = grind (arith, nat_tests)

@@ -3,4 +3,4 @@ use Rattle.text.proofs.skip_blanks.Goals as goal
 
 pub returns : goal.returns
 returns c =
-    begins c.args.line.now c.split-at.result.1.now c.count-blanks.result c.count-blanks.ensures.value c.split-at.ensures.back
+    begins c.args.line.now c.split_at.result.1.now c.count_blanks.result c.count_blanks.ensures.value c.split_at.ensures.back

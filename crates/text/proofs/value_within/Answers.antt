@@ -4,8 +4,8 @@ use Rattle.text.specs.Numbers.{number_after}
 use Rattle.text.proofs.Numbered.{digits_next, number_after_more, number_after_ge, value_large, value_fits}
 use Rattle.text.proofs.value_within.Goals as goal
 
-pub overflow-sub-digit : goal.overflow-sub-digit
-overflow-sub-digit c =
+pub overflow_sub-digit : goal.overflow_sub-digit
+overflow_sub-digit c =
     let next = digits_next c.args.word.now c.loop-digit.digit-index c.loop-digit-test.true c.loop-digit.invariant.1 in
     omega arith
 

@@ -7,8 +7,8 @@ use Rattle.files.proofs.records.read_records.Goals as goal
 pub loop-i-init : goal.loop-i-init
 loop-i-init g c = unpacked_none g.R.Record.decoded g.R.Record.size c.args.bytes.now
 
-pub slice-bounds-decode-end : goal.slice-bounds-decode-end
-slice-bounds-decode-end g c =
+pub slice_bounds-decode-end : goal.slice_bounds-decode-end
+slice_bounds-decode-end g c =
     let room = room_more c.loop-i.i (length c.args.out.now) g.R.Record.size (length c.args.bytes.now) (omega arith) (omega arith) in
     search rules
 

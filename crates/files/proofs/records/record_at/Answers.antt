@@ -14,18 +14,18 @@ returns-then-index-bytes g c =
     let past : n ≤ c.args.index = omega arith in
     sym (slice_get_past (unpacked d s n bs) c.args.index (simp length-unpacked past))
 
-pub overflow-mul-at : goal.overflow-mul-at
-overflow-mul-at g c =
+pub overflow_mul-at : goal.overflow_mul-at
+overflow_mul-at g c =
     let room = room_index c.args.index c.size-size.result (length c.args.bytes.now) (omega arith) in
     search rules
 
-pub overflow-add-at : goal.overflow-add-at
-overflow-add-at g c =
+pub overflow_add-at : goal.overflow_add-at
+overflow_add-at g c =
     let room = room_index c.args.index c.size-size.result (length c.args.bytes.now) (omega arith) in
     search rules
 
-pub slice-bounds-decode-end : goal.slice-bounds-decode-end
-slice-bounds-decode-end g c =
+pub slice_bounds-decode-end : goal.slice_bounds-decode-end
+slice_bounds-decode-end g c =
     let room = room_index c.args.index c.size-size.result (length c.args.bytes.now) (omega arith) in
     search rules
 

@@ -4,8 +4,8 @@ use Rattle.std.proofs.lemmas.List.{take_all}
 use Rattle.files.specs.Packs.{room_more, length_front, write_turn}
 use Rattle.files.proofs.records.write_records.Goals as goal
 
-pub slice-bounds-encode-end : goal.slice-bounds-encode-end
-slice-bounds-encode-end g c =
+pub slice_bounds-encode-end : goal.slice_bounds-encode-end
+slice_bounds-encode-end g c =
     let room = room_more c.loop-i.i (length c.args.records.now) g.R.Record.size (length c.loop-i.out) c.loop-i-test.true (omega arith) in
     search rules
 

@@ -6,4 +6,4 @@ use Rattle.files.proofs.writer.copy_list.Goals as goal
 pub returns : goal.returns
 returns g c =
     let bs = c.args.bytes.now in
-    wrote_behind 8 (length bs) (header_of (kind_number c.args.kind) c.args.count) bs c.args.out.now c.write-header.new.out c.copy-records.new.out refl refl c.write-header.ensures c.copy-records.ensures
+    wrote_behind 8 (length bs) (header_of (kind_number c.args.kind) c.args.count) bs c.args.out.now c.write_header.new.out c.copy_records.new.out refl refl c.write_header.ensures c.copy_records.ensures

@@ -8,4 +8,4 @@ returns c =
     let bs = c.args.bytes.now in
     let old = c.args.out.now in
     let before = ap (λ t. t ++ drop 8 old) c.encode.ensures.after in
-    wrote_behind 8 (length bs) (encoded_intro c.args.intro) bs old _ c.copy-records.new.out refl refl before c.copy-records.ensures
+    wrote_behind 8 (length bs) (encoded_intro c.args.intro) bs old _ c.copy_records.new.out refl refl before c.copy_records.ensures

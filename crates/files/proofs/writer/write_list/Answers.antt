@@ -10,9 +10,9 @@ returns g c =
     let xs = c.args.records.now in
     let e = g.R.Record.encoded in
     let s = g.R.Record.size in
-    let fits = c.write-records.ensures.fits in
+    let fits = c.write_records.ensures.fits in
     let long = length_joined e s g.R.Record.whole g.met.R.Record.long xs fits in
     record {
-      after = wrote_behind 8 (length xs * s) (header_of (kind_number c.args.kind) (length xs)) (flat_map e xs) c.args.out.now c.write-header.new.out c.write-records.new.out refl (sym long) c.write-header.ensures c.write-records.ensures.after;
+      after = wrote_behind 8 (length xs * s) (header_of (kind_number c.args.kind) (length xs)) (flat_map e xs) c.args.out.now c.write_header.new.out c.write_records.new.out refl (sym long) c.write_header.ensures c.write_records.ensures.after;
       fits = fits;
     }

@@ -9,15 +9,15 @@ use Rattle.files.proofs.writer.write_readings.Goals as goal
 pub returns : goal.returns
 returns c =
     let rs = c.args.records.now in
-    let n = c.in-ok-written.written in
+    let n = c.in_ok-written.written in
     let old = c.args.out.now in
-    let ok = c.in-ok-written.ensures in
-    let whole = c.write-list.ensures.fits in
+    let ok = c.in_ok-written.ensures in
+    let whole = c.write_list.ensures.fits in
     let long = length_joined encoded_reading 8 WholeReading reading_long rs whole in
     record {
       result = ok;
-      after = c.write-list.ensures.after;
+      after = c.write_list.ensures.after;
       back =
-          read_over Readings (length rs) (length old) n (of_readings rs) old c.write-list.new.out ok (omega arith) c.write-list.ensures.after
+          read_over Readings (length rs) (length old) n (of_readings rs) old c.write_list.new.out ok (omega arith) c.write_list.ensures.after
           (readings_back rs (writing_ok Readings (length rs) (length old) n ok).0 whole);
     }

@@ -10,10 +10,10 @@ pub returns : goal.returns
 returns c =
     let rows = c.args.rows.now in
     let old = c.args.out.now in
-    let fits = c.write-records.ensures.fits in
+    let fits = c.write_records.ensures.fits in
     let long = length_joined encoded_row row_size WholeRow row_long rows fits in
     let before = ap (λ t. t ++ drop 8 old) c.encode.ensures.after in
     record {
-      after = wrote_behind 8 (length rows * row_size) (encoded_intro c.args.intro) (flat_map encoded_row rows) old _ c.write-records.new.out refl (sym long) before c.write-records.ensures.after;
+      after = wrote_behind 8 (length rows * row_size) (encoded_intro c.args.intro) (flat_map encoded_row rows) old _ c.write_records.new.out refl (sym long) before c.write_records.ensures.after;
       fits = (c.encode.ensures.fits, fits);
     }

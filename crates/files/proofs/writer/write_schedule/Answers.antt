@@ -12,14 +12,14 @@ use Rattle.files.proofs.writer.write_schedule.Goals as goal
 pub returns : goal.returns
 returns c =
     let rows = c.args.rows.now in
-    let n = c.in-ok-written.written in
+    let n = c.in_ok-written.written in
     let old = c.args.out.now in
     let intro : Intro = record { sender = c.args.sender; day = c.args.day; moment = c.args.moment } in
     let body = encoded_intro intro ++ flat_map encoded_row rows in
-    let ok = c.in-ok-written.ensures in
-    let whole = c.write-rows.ensures.fits in
+    let ok = c.in_ok-written.ensures in
+    let whole = c.write_rows.ensures.fits in
     let long = length_schedule intro rows whole.1 in
-    let wrote = wrote_behind 8 (length body) (header_of 1 (length rows)) body old c.write-header.new.out c.write-rows.new.out refl refl c.write-header.ensures c.write-rows.ensures.after in
+    let wrote = wrote_behind 8 (length body) (header_of 1 (length rows)) body old c.write_header.new.out c.write_rows.new.out refl refl c.write_header.ensures c.write_rows.ensures.after in
     record {
       result = ok;
       after = wrote;

@@ -7,5 +7,5 @@ returns g c =
     let t = c.args.self.entries.now in
     let s = c.args.subject in
     let d = c.args.day in
-    let is = c.first-on.ensures in
+    let is = c.first_on.ensures in
     record { is = is; within = rw is (found_within_says t s d); says = rw is (found_says t s d) }

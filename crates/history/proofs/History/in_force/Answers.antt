@@ -10,7 +10,7 @@ returns g c =
     let t = c.args.self.entries.now in
     let s = c.args.subject in
     let d = c.args.day in
-    let is = c.latest-due.ensures in
+    let is = c.latest_due.ensures in
     record {
       is = is;
       within = rw is (in_force_within t s d);

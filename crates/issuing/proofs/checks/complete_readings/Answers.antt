@@ -13,7 +13,7 @@ loop-i-init c = first_none _
 pub returns-then-empty : goal.returns-then-empty
 returns-then-empty c =
     let rs = c.args.readings.now in
-    let e : is_empty (reading_at rs c.args.day (c.loop-i.i + 1)) ≡ true = sym (ap (λ (k : ℕ). is_empty (get_or rs k no_reading)) c.reading-slot.ensures) ∙ eq-eqb _ 0 c.if-empty.true in
+    let e : is_empty (reading_at rs c.args.day (c.loop-i.i + 1)) ≡ true = sym (ap (λ (k : ℕ). is_empty (get_or rs k no_reading)) c.reading_slot.ensures) ∙ eq-eqb _ 0 c.if-empty.true in
     found_here (λ i. is_empty (reading_at rs c.args.day (i + 1))) (λ i. ReadingMissing (i + 1)) c.loop-i.i periods c.loop-i.invariant e c.loop-i-test.true
 
 pub loop-i-preserved : goal.loop-i-preserved

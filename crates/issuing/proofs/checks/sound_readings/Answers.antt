@@ -12,7 +12,7 @@ loop-i-init c = first_none _
 pub returns-then-spoiled : goal.returns-then-spoiled
 returns-then-spoiled c =
     let rs = c.args.readings.now in
-    let e : spoiled_reading (reading_at rs c.args.day (c.loop-i.i + 1)) ≡ true = sym (c.if-spoiled.ensures ∙ ap (λ (k : ℕ). spoiled_reading (get_or rs k no_reading)) c.reading-slot.ensures) in
+    let e : spoiled_reading (reading_at rs c.args.day (c.loop-i.i + 1)) ≡ true = sym (c.if-spoiled.ensures ∙ ap (λ (k : ℕ). spoiled_reading (get_or rs k no_reading)) c.reading_slot.ensures) in
     found_here (λ i. spoiled_reading (reading_at rs c.args.day (i + 1))) (λ _. Spoiled Readings) c.loop-i.i periods c.loop-i.invariant e c.loop-i-test.true
 
 pub loop-i-preserved : goal.loop-i-preserved

@@ -15,10 +15,10 @@ pub returns-then-spoiled : goal.returns-then-spoiled
 returns-then-spoiled c =
     let t = c.args.issued.now in
     let i = c.loop-i.i in
-    let first = c.issued-slot-first.ensures in
+    let first = c.issued_slot-first.ensures in
     let e : spoiled_slot (slot_of_day c.args.terms t c.args.day i) ≡ true = sym (c.if-spoiled.ensures ∙ ap (λ (k : ℕ). spoiled_slot (get_or t (k + i) no_volume)) first) in
     let P : ℕ → Type 0 = λ k. first_where (λ j. spoiled_slot (get_or t (k + j) no_volume)) i ≡ None in
-    found_here (λ j. spoiled_slot (slot_of_day c.args.terms t c.args.day j)) (λ _. Spoiled Issued) i (issued_slots c.args.terms.places 1) (subst P first c.loop-i.invariant) e (omega (arith, c.loop-i-test.true, c.issued-slots-i-end.ensures))
+    found_here (λ j. spoiled_slot (slot_of_day c.args.terms t c.args.day j)) (λ _. Spoiled Issued) i (issued_slots c.args.terms.places 1) (subst P first c.loop-i.invariant) e (omega (arith, c.loop-i-test.true, c.issued_slots-i-end.ensures))
 
 pub loop-i-preserved : goal.loop-i-preserved
 loop-i-preserved c = search (rules, first_more)

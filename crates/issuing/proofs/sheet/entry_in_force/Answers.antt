@@ -3,8 +3,8 @@ use Rattle.history.specs.Entries.{entry_at}
 use Rattle.issuing.proofs.Lookups.{within, entry_is}
 use Rattle.issuing.proofs.sheet.entry_in_force.Goals as goal
 
-pub offset-bounds-table-i : goal.offset-bounds-table-i
-offset-bounds-table-i g c =
+pub offset_bounds-table-i : goal.offset_bounds-table-i
+offset_bounds-table-i g c =
     omega (arith, within c.args.held.entries.now c.args.table.now c.args.subject c.args.day c.in-Some.i c.requires c.in-Some.ensures.says)
 
 pub bounds-table-i : goal.bounds-table-i

@@ -12,7 +12,7 @@ returns-then-spoiled c =
     let hs = c.args.held.entries.now in
     let f = λ (q : ℕ). supplier_of hs c.args.ended c.args.day q in
     let q = c.loop-place.place in
-    let e : spoiled_holder (f q) ≡ true = sym (ap spoiled_holder c.supplier-of-holder.ensures) ∙ sym c.is-spoiled-holder-spoiled.ensures ∙ c.if-spoiled.true in
+    let e : spoiled_holder (f q) ≡ true = sym (ap spoiled_holder c.supplier_of-holder.ensures) ∙ sym c.is_spoiled_holder-spoiled.ensures ∙ c.if-spoiled.true in
     record { is = refl; found = ap is_some (first_here (λ k. spoiled_holder (f k)) q c.args.terms.places c.loop-place.invariant.0 e c.loop-place-test.true) }
 
 pub loop-place-preserved : goal.loop-place-preserved
@@ -20,6 +20,6 @@ loop-place-preserved c =
     let hs = c.args.held.entries.now in
     let f = λ (q : ℕ). supplier_of hs c.args.ended c.args.day q in
     let q = c.loop-place.place in
-    let e : spoiled_holder (f q) ≡ false = sym (ap spoiled_holder c.supplier-of-holder.ensures) ∙ sym c.is-spoiled-holder-spoiled.ensures ∙ c.if-spoiled.false in
+    let e : spoiled_holder (f q) ≡ false = sym (ap spoiled_holder c.supplier_of-holder.ensures) ∙ sym c.is_spoiled_holder-spoiled.ensures ∙ c.if-spoiled.false in
     let l : q < length c.loop-place.holders = omega (arith, c.loop-place-test.true, c.args.terms.few, c.loop-place.invariant.2) in
-    (first_more (λ k. spoiled_holder (f k)) q c.loop-place.invariant.0 e, each_more f c.loop-place.holders q c.from.result c.supplier-of-holder.result c.from.ensures l c.supplier-of-holder.ensures c.loop-place.invariant.1, length-set c.loop-place.holders c.from.result c.supplier-of-holder.result ∙ c.loop-place.invariant.2)
+    (first_more (λ k. spoiled_holder (f k)) q c.loop-place.invariant.0 e, each_more f c.loop-place.holders q c.from.result c.supplier_of-holder.result c.from.ensures l c.supplier_of-holder.ensures c.loop-place.invariant.1, length-set c.loop-place.holders c.from.result c.supplier_of-holder.result ∙ c.loop-place.invariant.2)

@@ -15,7 +15,7 @@ returns-then-spoiled g c =
     let f = λ (k : ℕ). row_of rs c.args.ended c.args.day (k + 1) in
     let i = c.loop-i.i in
     let bad = spoiled_row m c.args.terms in
-    let e : bad (f i) ≡ true = sym (ap bad c.row-of-row.ensures) ∙ sym c.is-spoiled-row-spoiled.ensures ∙ c.if-spoiled.true in
+    let e : bad (f i) ≡ true = sym (ap bad c.row_of-row.ensures) ∙ sym c.is_spoiled_row-spoiled.ensures ∙ c.if-spoiled.true in
     record { is = refl; found = ap is_some (first_here (λ k. bad (f k)) i periods c.loop-i.invariant.0 e c.loop-i-test.true) }
 
 pub loop-i-preserved : goal.loop-i-preserved
@@ -25,6 +25,6 @@ loop-i-preserved g c =
     let f = λ (k : ℕ). row_of rs c.args.ended c.args.day (k + 1) in
     let i = c.loop-i.i in
     let bad = spoiled_row m c.args.terms in
-    let e : bad (f i) ≡ false = sym (ap bad c.row-of-row.ensures) ∙ sym c.is-spoiled-row-spoiled.ensures ∙ c.if-spoiled.false in
+    let e : bad (f i) ≡ false = sym (ap bad c.row_of-row.ensures) ∙ sym c.is_spoiled_row-spoiled.ensures ∙ c.if-spoiled.false in
     let l : i < length c.loop-i.rows = omega (arith, c.loop-i-test.true, c.loop-i.invariant.2) in
-    (first_more (λ k. bad (f k)) i c.loop-i.invariant.0 e, each_more f c.loop-i.rows i c.from.result c.row-of-row.result c.from.ensures l c.row-of-row.ensures c.loop-i.invariant.1, length-set c.loop-i.rows c.from.result c.row-of-row.result ∙ c.loop-i.invariant.2)
+    (first_more (λ k. bad (f k)) i c.loop-i.invariant.0 e, each_more f c.loop-i.rows i c.from.result c.row_of-row.result c.from.ensures l c.row_of-row.ensures c.loop-i.invariant.1, length-set c.loop-i.rows c.from.result c.row_of-row.result ∙ c.loop-i.invariant.2)

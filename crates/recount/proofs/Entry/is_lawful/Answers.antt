@@ -6,4 +6,4 @@ use Rattle.recount.proofs.Entry.is_lawful.Goals as goal
 
 pub returns : goal.returns
 returns c =
-    c.is-some.ensures ∙ lawful_some house (entered c.args.self) 1 0 0 c.by-method.result c.by-method.ensures
+    c.is_some.ensures ∙ lawful_some house (entered c.args.self) 1 0 0 c.by_method.result c.by_method.ensures

@@ -6,4 +6,4 @@ use Rattle.files.proofs.records.AllocationRowRecord.decode.Goals as goal
 pub returns : goal.returns
 returns c =
     let bs = c.args.bytes.now in
-    ap (λ ns. record { method = get_or bs 0 0; balance = get_or bs 1 0; nominations = ns }) (c.read-records.ensures ∙ ap (unpacked number32 4 8) (take_rest bs 2))
+    ap (λ ns. record { method = get_or bs 0 0; balance = get_or bs 1 0; nominations = ns }) (c.read_records.ensures ∙ ap (unpacked number32 4 8) (take_rest bs 2))

@@ -15,7 +15,7 @@ returns c =
     let short : length part ≤ 32 = simp length-take (omega arith) in
     record {
       after =
-          row_written row out c.write-records.new.out part (length begun - 2) c.requires size short
-          (c.write-records.ensures.after ∙ ap (λ n. flat_map word32 row.nominations ++ drop (n * 4) part) eight);
-      fits = (eight, c.write-records.ensures.fits);
+          row_written row out c.write_records.new.out part (length begun - 2) c.requires size short
+          (c.write_records.ensures.after ∙ ap (λ n. flat_map word32 row.nominations ++ drop (n * 4) part) eight);
+      fits = (eight, c.write_records.ensures.fits);
     }

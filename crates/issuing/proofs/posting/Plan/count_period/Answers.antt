@@ -10,23 +10,23 @@ use Rattle.issuing.proofs.posting.Plan.count_period.Goals as goal
 pub loop-place-init : goal.loop-place-init
 loop-place-init g c = sym (ap length (gathered_none _))
 
-pub bounds-issued-issued-slot : goal.bounds-issued-issued-slot
-bounds-issued-issued-slot g c =
+pub bounds-issued-issued_slot : goal.bounds-issued-issued_slot
+bounds-issued-issued_slot g c =
     let p = c.args.self in
-    omega (arith, issued_within p.terms.places p.terms.days p.day c.args.period c.loop-place.place c.requires.ready.day c.requires.period.0 c.requires.period.1 c.loop-place-test.true, c.requires.ready.slots, c.issued-slot.ensures)
+    omega (arith, issued_within p.terms.places p.terms.days p.day c.args.period c.loop-place.place c.requires.ready.day c.requires.period.0 c.requires.period.1 c.loop-place-test.true, c.requires.ready.slots, c.issued_slot.ensures)
 
-pub count-slot-needed-requires : goal.count-slot-needed-requires
-count-slot-needed-requires g c = record {
-  was = subst (λ (k : ℕ). Tame (get_or c.args.issued.now k no_volume).volume) (sym c.issued-slot.ensures) (c.requires.tame c.loop-place.place c.loop-place-test.true);
-  next = c.next-slot.ensures.tame;
+pub count_slot-needed-requires : goal.count_slot-needed-requires
+count_slot-needed-requires g c = record {
+  was = subst (λ (k : ℕ). Tame (get_or c.args.issued.now k no_volume).volume) (sym c.issued_slot.ensures) (c.requires.tame c.loop-place.place c.loop-place-test.true);
+  next = c.next_slot.ensures.tame;
 }
 
 pub loop-place-preserved : goal.loop-place-preserved
 loop-place-preserved g c =
     let p = c.args.self in
-    count_step p.terms (planned (g.R.Rule.meaning p.rule.now) p) p.day p.run c.args.issued.now c.args.period c.loop-place.place c.issued-slot.result c.next-slot.result c.issued-slot.ensures c.next-slot.ensures.is c.loop-place.needed c.count-slot-needed.result c.loop-place.invariant (c.count-slot-needed.ensures p.day p.run c.args.period c.loop-place.place)
+    count_step p.terms (planned (g.R.Rule.meaning p.rule.now) p) p.day p.run c.args.issued.now c.args.period c.loop-place.place c.issued_slot.result c.next_slot.result c.issued_slot.ensures c.next_slot.ensures.is c.loop-place.needed c.count_slot-needed.result c.loop-place.invariant (c.count_slot-needed.ensures p.day p.run c.args.period c.loop-place.place)
 
-pub overflow-add-needed : goal.overflow-add-needed
-overflow-add-needed g c =
+pub overflow_add-needed : goal.overflow_add-needed
+overflow_add-needed g c =
     let p = c.args.self in
-    omega (arith, count_step p.terms (planned (g.R.Rule.meaning p.rule.now) p) p.day p.run c.args.issued.now c.args.period c.loop-place.place c.issued-slot.result c.next-slot.result c.issued-slot.ensures c.next-slot.ensures.is c.loop-place.needed c.count-slot-needed.result c.loop-place.invariant (c.count-slot-needed.ensures p.day p.run c.args.period c.loop-place.place), period_most p.terms (planned (g.R.Rule.meaning p.rule.now) p) p.day p.run c.args.issued.now c.args.period (c.loop-place.place + 1), c.args.self.terms.few)
+    omega (arith, count_step p.terms (planned (g.R.Rule.meaning p.rule.now) p) p.day p.run c.args.issued.now c.args.period c.loop-place.place c.issued_slot.result c.next_slot.result c.issued_slot.ensures c.next_slot.ensures.is c.loop-place.needed c.count_slot-needed.result c.loop-place.invariant (c.count_slot-needed.ensures p.day p.run c.args.period c.loop-place.place), period_most p.terms (planned (g.R.Rule.meaning p.rule.now) p) p.day p.run c.args.issued.now c.args.period (c.loop-place.place + 1), c.args.self.terms.few)

@@ -12,8 +12,8 @@ pub loop-i-init : goal.loop-i-init
 loop-i-init g c =
     (simp gathered_none (omega arith), sym (posted_none c.args.journal.now c.args.at) ∙ sym (ap (posted c.args.journal.now c.args.at) (gathered_none _)), sym (days_none _ _ _ c.args.issued.now))
 
-pub send-period-end-requires : goal.send-period-end-requires
-send-period-end-requires g c =
+pub send_period-end-requires : goal.send_period-end-requires
+send_period-end-requires g c =
     let p = c.args.self in
     let t = c.args.issued.now in
     let i = c.loop-i.i in
@@ -36,4 +36,4 @@ loop-i-preserved g c =
     let n = p.terms.places in
     let ls = later_lines p.terms next p.day p.run i t c.loop-i.issued c.loop-i.invariant.2 in
     let f = λ (k : ℕ). period_lines p.terms t next p.day p.run (k + 1) n in
-    (turn_end f i c.args.at c.loop-i.end c.send-period-end.result _ ls c.loop-i.invariant.0 c.send-period-end.ensures.next, turn_journal f i c.args.at c.loop-i.end _ c.args.journal.now c.loop-i.journal c.send-period-end.new.journal (omega (arith, c.requires.room)) ls c.loop-i.invariant.0 c.loop-i.invariant.1 c.send-period-end.ensures.journal, c.send-period-end.ensures.issued ∙ ap (filled (next (i + 1)) (reading_slot p.day (i + 1) * n) n) c.loop-i.invariant.2 ∙ days_more n next p.day i t)
+    (turn_end f i c.args.at c.loop-i.end c.send_period-end.result _ ls c.loop-i.invariant.0 c.send_period-end.ensures.next, turn_journal f i c.args.at c.loop-i.end _ c.args.journal.now c.loop-i.journal c.send_period-end.new.journal (omega (arith, c.requires.room)) ls c.loop-i.invariant.0 c.loop-i.invariant.1 c.send_period-end.ensures.journal, c.send_period-end.ensures.issued ∙ ap (filled (next (i + 1)) (reading_slot p.day (i + 1) * n) n) c.loop-i.invariant.2 ∙ days_more n next p.day i t)

@@ -11,27 +11,27 @@ pub loop-place-init : goal.loop-place-init
 loop-place-init g c =
     (simp gathered_none (omega arith), sym (posted_none c.args.journal.now c.args.at) ∙ sym (ap (posted c.args.journal.now c.args.at) (gathered_none _)), sym (filled_none _ _ c.args.issued.now))
 
-pub slice-copy-out·was : goal.slice-copy-out·was
-slice-copy-out·was g c =
+pub slice_copy_out·was : goal.slice_copy_out·was
+slice_copy_out·was g c =
     let p = c.args.self in
-    omega (arith, issued_within p.terms.places p.terms.days p.day c.args.period c.loop-place.place c.requires.ready.day c.requires.period.0 c.requires.period.1 c.loop-place-test.true, c.requires.ready.slots, c.issued-slot-slot.ensures, c.loop-place.auto.issued)
+    omega (arith, issued_within p.terms.places p.terms.days p.day c.args.period c.loop-place.place c.requires.ready.day c.requires.period.0 c.requires.period.1 c.loop-place-test.true, c.requires.ready.slots, c.issued_slot-slot.ensures, c.loop-place.auto.issued)
 
 pub bounds-issued-slot : goal.bounds-issued-slot
 bounds-issued-slot g c =
     let p = c.args.self in
-    omega (arith, issued_within p.terms.places p.terms.days p.day c.args.period c.loop-place.place c.requires.ready.day c.requires.period.0 c.requires.period.1 c.loop-place-test.true, c.requires.ready.slots, c.issued-slot-slot.ensures, c.loop-place.auto.issued)
+    omega (arith, issued_within p.terms.places p.terms.days p.day c.args.period c.loop-place.place c.requires.ready.day c.requires.period.0 c.requires.period.1 c.loop-place-test.true, c.requires.ready.slots, c.issued_slot-slot.ensures, c.loop-place.auto.issued)
 
-pub send-slot-end-requires : goal.send-slot-end-requires
-send-slot-end-requires g c =
+pub send_slot-end-requires : goal.send_slot-end-requires
+send_slot-end-requires g c =
     let p = c.args.self in
     let t = c.args.issued.now in
     let at = c.args.period in
     let q = c.loop-place.place in
     let next = planned (g.R.Rule.meaning p.rule.now) p in
-    let ls = turn_lines p.terms next p.day p.run t at q c.issued-slot-slot.result c.next-slot-next.result c.issued-slot-slot.ensures c.next-slot-next.ensures.is c.loop-place.issued c.loop-place.invariant.2 in
+    let ls = turn_lines p.terms next p.day p.run t at q c.issued_slot-slot.result c.next_slot-next.result c.issued_slot-slot.ensures c.next_slot-next.ensures.is c.loop-place.issued c.loop-place.invariant.2 in
     record {
-      was = rw (turn_read p.terms next p.day p.run t at q c.issued-slot-slot.result c.next-slot-next.result c.issued-slot-slot.ensures c.next-slot-next.ensures.is c.loop-place.issued c.loop-place.invariant.2) (c.requires.tame q c.loop-place-test.true);
-      next = c.next-slot-next.ensures.tame;
+      was = rw (turn_read p.terms next p.day p.run t at q c.issued_slot-slot.result c.next_slot-next.result c.issued_slot-slot.ensures c.next_slot-next.ensures.is c.loop-place.issued c.loop-place.invariant.2) (c.requires.tame q c.loop-place-test.true);
+      next = c.next_slot-next.ensures.tame;
       room = turn_room (place_lines p.terms t next p.day p.run at) q p.terms.places c.args.at c.loop-place.end (length c.loop-place.journal) _ ls c.loop-place.invariant.0 c.loop-place-test.true (omega (arith, c.requires.room, c.loop-place.auto.journal));
     }
 
@@ -42,5 +42,5 @@ loop-place-preserved g c =
     let at = c.args.period in
     let q = c.loop-place.place in
     let next = planned (g.R.Rule.meaning p.rule.now) p in
-    let ls = turn_lines p.terms next p.day p.run t at q c.issued-slot-slot.result c.next-slot-next.result c.issued-slot-slot.ensures c.next-slot-next.ensures.is c.loop-place.issued c.loop-place.invariant.2 in
-    (turn_end (place_lines p.terms t next p.day p.run at) q c.args.at c.loop-place.end c.send-slot-end.result _ ls c.loop-place.invariant.0 c.send-slot-end.ensures.next, turn_journal (place_lines p.terms t next p.day p.run at) q c.args.at c.loop-place.end _ c.args.journal.now c.loop-place.journal c.send-slot-end.new.journal (omega (arith, c.requires.room)) ls c.loop-place.invariant.0 c.loop-place.invariant.1 c.send-slot-end.ensures.journal, turn_slots p.terms next p.day p.run t at q c.issued-slot-slot.result c.next-slot-next.result c.issued-slot-slot.ensures c.next-slot-next.ensures.is c.loop-place.issued c.loop-place.invariant.2)
+    let ls = turn_lines p.terms next p.day p.run t at q c.issued_slot-slot.result c.next_slot-next.result c.issued_slot-slot.ensures c.next_slot-next.ensures.is c.loop-place.issued c.loop-place.invariant.2 in
+    (turn_end (place_lines p.terms t next p.day p.run at) q c.args.at c.loop-place.end c.send_slot-end.result _ ls c.loop-place.invariant.0 c.send_slot-end.ensures.next, turn_journal (place_lines p.terms t next p.day p.run at) q c.args.at c.loop-place.end _ c.args.journal.now c.loop-place.journal c.send_slot-end.new.journal (omega (arith, c.requires.room)) ls c.loop-place.invariant.0 c.loop-place.invariant.1 c.send_slot-end.ensures.journal, turn_slots p.terms next p.day p.run t at q c.issued_slot-slot.result c.next_slot-next.result c.issued_slot-slot.ensures c.next_slot-next.ensures.is c.loop-place.issued c.loop-place.invariant.2)
