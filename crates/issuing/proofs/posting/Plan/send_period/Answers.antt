@@ -11,7 +11,7 @@ pub loop-place-init : goal.loop-place-init
 loop-place-init g c =
     (simp gathered_none (omega arith), sym (posted_none c.args.journal.now c.args.at) ∙ sym (ap (posted c.args.journal.now c.args.at) (gathered_none _)), sym (filled_none _ _ c.args.issued.now))
 
-pub slice_copy_out-was : goal.slice_copy_out·was
+pub slice_copy_out-was : goal.slice_copy_out-was
 slice_copy_out-was g c =
     let p = c.args.self in
     omega (arith, issued_within p.terms.places p.terms.days p.day c.args.period c.loop-place.place c.requires.ready.day c.requires.period.0 c.requires.period.1 c.loop-place-test.true, c.requires.ready.slots, c.issued_slot-slot.ensures, c.loop-place.auto.issued)
