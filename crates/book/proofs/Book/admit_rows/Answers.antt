@@ -6,13 +6,13 @@ pub loop-row-preserved : goal.loop-row-preserved
 loop-row-preserved g c =
     let m = g.R.Rule.meaning c.args.self.now.rule in
     let t = c.args.self.now.terms in
-    (omega arith, sym (rows_yes m t c.loop-row.period c.loop-row.row-index _ c.args.schedule.now c.loop-row-test.true (sym c.if-not-is-allowed.ensures)) ∙ c.loop-row.invariant.1)
+    (omega arith, sym (rows_yes m t c.loop-row.period c.loop-row.row-index _ c.args.schedule.now c.loop-row-test.true (sym c.if-not-is_allowed.ensures)) ∙ c.loop-row.invariant.1)
 
-pub returns-then-not-is-allowed : goal.returns-then-not-is-allowed
-returns-then-not-is-allowed g c =
+pub returns-then-not-is_allowed : goal.returns-then-not-is_allowed
+returns-then-not-is_allowed g c =
     let m = g.R.Rule.meaning c.args.self.now.rule in
     let t = c.args.self.now.terms in
-    sym (rows_no m t c.loop-row.period c.loop-row.row-index _ c.args.schedule.now c.loop-row-test.true (sym c.if-not-is-allowed.ensures)) ∙ c.loop-row.invariant.1
+    sym (rows_no m t c.loop-row.period c.loop-row.row-index _ c.args.schedule.now c.loop-row-test.true (sym c.if-not-is_allowed.ensures)) ∙ c.loop-row.invariant.1
 
 pub returns : goal.returns
 returns g c =
