@@ -32,7 +32,7 @@ pub returns : goal.returns
 returns g c =
     let b = c.open-book.result in
     let of = c.open-book.ensures.of in
-    let blank = c.in-ok-blank.ensures in
+    let blank = c.in_ok-blank.ensures in
     let m = g.R.Rule.meaning in
     let hs = c.args.holders.now in
     let rs = c.args.rows.now in
