@@ -15,7 +15,6 @@ use files::{ReadingRecord, ReadingsFile, ScheduleFile, read_readings, read_sched
 use history::Dated;
 use rules::House;
 use std::alloc::{AllocError, Global};
-use std::fmt;
 
 // The most bytes of input that are read.
 pub const MAX_INPUT: usize = 40_000;
@@ -161,7 +160,7 @@ fn run_day(
 }
 
 // Adds a refusal to the text.
-fn put_refusal(text: &mut String, fault: Fault) -> fmt::Result
+fn put_refusal(text: &mut String, fault: Fault) -> Result<(), AllocError>
     ensures { OnOk result (string_bytes text.new ≡ string_bytes text.old ++ refusal_text fault) }
 {
     let number = fault.number();
@@ -170,7 +169,7 @@ fn put_refusal(text: &mut String, fault: Fault) -> fmt::Result
 }
 
 // Adds a line to the text.
-fn put_line(text: &mut String, line: Line) -> fmt::Result
+fn put_line(text: &mut String, line: Line) -> Result<(), AllocError>
     ensures { OnOk result (string_bytes text.new ≡ string_bytes text.old ++ line_text line) }
 {
     let Line {
@@ -184,7 +183,7 @@ fn put_line(text: &mut String, line: Line) -> fmt::Result
 }
 
 // Adds the first lines of a journal to the text, so many at most.
-fn put_lines(text: &mut String, journal: &[Line], sent: usize) -> fmt::Result
+fn put_lines(text: &mut String, journal: &[Line], sent: usize) -> Result<(), AllocError>
     ensures { OnOk result (string_bytes text.new ≡ string_bytes text.old ++ flat_map line_text (take sent journal.now)) }
 {
     for index in 0..sent.min(journal.len()) {
@@ -194,7 +193,7 @@ fn put_lines(text: &mut String, journal: &[Line], sent: usize) -> fmt::Result
 }
 
 // Adds the lines that were sent to the text, or only the refusal.
-fn put_answer(text: &mut String, journal: &[Line], answer: Result<usize, Fault>) -> fmt::Result
+fn put_answer(text: &mut String, journal: &[Line], answer: Result<usize, Fault>) -> Result<(), AllocError>
     ensures { OnOk result (string_bytes text.new ≡ string_bytes text.old ++ answer_text (seen_by (λ sent. take sent journal.now) answer)) }
 {
     match answer {
@@ -204,7 +203,7 @@ fn put_answer(text: &mut String, journal: &[Line], answer: Result<usize, Fault>)
 }
 
 // Runs the day on blank tables, and adds what comes of it to the text.
-fn put_day(text: &mut String, files: DayFiles<'_>, schedule: &[AllocationRow]) -> fmt::Result
+fn put_day(text: &mut String, files: DayFiles<'_>, schedule: &[AllocationRow]) -> Result<(), AllocError>
     ensures { OnOk result (string_bytes text.new ≡ string_bytes text.old ++ answer_text (day_sent site_terms start files.entry.schedule.sender files.entry.schedule.day files.entry.schedule.moment schedule.now (readings_in files.entry.readings.records.now))) }
 {
     let mut holders = [NO_HOLDER; 2];
@@ -229,15 +228,12 @@ pub fn split_day(heap: Global, input: &[u8]) -> Result<Vec<u8>, AllocError>
     ensures { IfOk result (λ v. v.items ≡ day_text input.now) }
 {
     let mut text = String::new(heap);
-    let put = match read_day(input) {
+    match read_day(input) {
         Ok(files) => {
             let schedule = schedule_rows(heap, files.schedule)?;
-            put_day(&mut text, files, schedule.as_slice())
+            put_day(&mut text, files, schedule.as_slice())?;
         }
-        Err(fault) => put_refusal(&mut text, fault),
-    };
-    match put {
-        Ok(()) => Ok(text.into_bytes()),
-        Err(_) => Err(AllocError),
+        Err(fault) => put_refusal(&mut text, fault)?,
     }
+    Ok(text.into_bytes())
 }

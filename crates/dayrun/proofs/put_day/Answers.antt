@@ -4,4 +4,4 @@ use Rattle.dayrun.proofs.put_day.Goals as goal
 
 pub returns : goal.returns
 unfolding start
-returns c = put_more c.put-answer.result _ _ c.run-day-answer.ensures c.put-answer.ensures
+returns c = put_more c.put_answer.result _ _ c.run_day-answer.ensures c.put_answer.ensures

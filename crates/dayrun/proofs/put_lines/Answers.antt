@@ -10,7 +10,7 @@ pub loop-index-preserved : goal.loop-index-preserved
 loop-index-preserved c =
     let xs = c.args.journal.now in
     let i = c.loop-index.index in
-    text_more line_text xs i (get_or xs i no_line) (string_bytes c.args.text.now) (string_bytes c.loop-index.text) (string_bytes c.put-line.new.text) (slice_get-get_or xs i no_line (omega arith)) c.loop-index.invariant c.in-ok-put-line.ensures
+    text_more line_text xs i (get_or xs i no_line) (string_bytes c.args.text.now) (string_bytes c.loop-index.text) (string_bytes c.put_line.new.text) (slice_get-get_or xs i no_line (omega arith)) c.loop-index.invariant c.in_ok-put_line.ensures
 
 pub returns : goal.returns
 returns c =

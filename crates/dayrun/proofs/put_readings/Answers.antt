@@ -20,15 +20,15 @@ loop-reading-preserved c =
     let long = length-unpacked decoded_reading reading_size (length bs / reading_size) bs in
     let below = nth_below (readings_in bs) c.loop-reading.index c.in-Some.reading (sym c.in-Some.ensures) in (
       omega arith,
-      reading_more _ _ c.loop-reading.table (readings_in bs) c.loop-reading.index c.in-Some.reading (sym c.in-Some.ensures) c.loop-reading.invariant.1 c.in-ok-reading.ensures.answer c.in-ok-reading.ensures.after,
+      reading_more _ _ c.loop-reading.table (readings_in bs) c.loop-reading.index c.in-Some.reading (sym c.in-Some.ensures) c.loop-reading.invariant.1 c.in_ok-reading.ensures.answer c.in_ok-reading.ensures.after,
     )
 
-pub returns-in-err-reading : goal.returns-in-err-reading
-returns-in-err-reading c =
-    let p = err_from_is_err_and c.from-residual.result c.from-residual.ensures.1 in
-    rw (p.1, p.2) (reading_stop _ _ c.loop-reading.table (readings_in c.args.file.records.now) c.loop-reading.index c.in-Some.reading (sym c.in-Some.ensures) c.loop-reading.invariant.1 c.in-err-reading.ensures.answer)
+pub returns-in_err-reading : goal.returns-in_err-reading
+returns-in_err-reading c =
+    let p = err_from_is_err_and c.from_residual.result c.from_residual.ensures.1 in
+    rw (p.1, p.2) (reading_stop _ _ c.loop-reading.table (readings_in c.args.file.records.now) c.loop-reading.index c.in-Some.reading (sym c.in-Some.ensures) c.loop-reading.invariant.1 c.in_err-reading.ensures.answer)
 
 pub returns : goal.returns
 returns c =
     let bs = c.args.file.records.now in
-    reading_end _ _ c.loop-reading.table (readings_in bs) c.loop-reading.index (sym c.in-default.ensures) c.loop-reading.invariant.1
+    reading_end _ _ c.loop-reading.table (readings_in bs) c.loop-reading.index (sym c.in_default.ensures) c.loop-reading.invariant.1

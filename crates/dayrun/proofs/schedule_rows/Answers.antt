@@ -18,10 +18,10 @@ loop-row-preserved c =
     let long = length-unpacked decoded_row row_size (length bs / row_size) bs in
     let below = nth_below (rows_in bs) c.loop-row.index c.in-Some.row (sym c.in-Some.ensures) in (
       omega arith,
-      rows_more (rows_in bs) c.loop-row.index c.in-Some.row (sym c.in-Some.ensures) c.loop-row.invariant.1 c.in-ok-push.ensures.items,
+      rows_more (rows_in bs) c.loop-row.index c.in-Some.row (sym c.in-Some.ensures) c.loop-row.invariant.1 c.in_ok-push.ensures.items,
     )
 
 pub returns : goal.returns
 returns c =
     let bs = c.args.file.rows.now in
-    c.loop-row.invariant.1 ∙ take_none (rows_in bs) c.loop-row.index (sym c.in-default.ensures)
+    c.loop-row.invariant.1 ∙ take_none (rows_in bs) c.loop-row.index (sym c.in_default.ensures)
