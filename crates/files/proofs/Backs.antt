@@ -1,6 +1,6 @@
 -- What a writer wrote, read back.
 use Rattle.std.proofs.Common.{◌≡◌, ℕ, ◌+◌, ◌*◌, ◌/◌, ◌%◌, ◌<◌, true, List, ◌++◌, length, take, Ok, Result, sym, refl, ap, ◌∙◌, arith, rules}
-use Rattle.std.specs.List.{flat_map, AllByRecursion as All}
+use Rattle.std.specs.List.{flat_map, AllByRecursion}
 use Rattle.std.proofs.lemmas.Bool.Decides.{nat_tests}
 use Rattle.domain.specs.declared.Fault.{Fault}
 use Rattle.files.specs.Bytes.{unpacked}
@@ -58,7 +58,7 @@ few_allowed Statement count ok = grind (arith, nat_tests)
 pub writing_ok : (k : Kind) (count room n : ℕ) → ◌≡◌ {A = Result ℕ Fault} (Ok n) (writing k count room) → (allowed k count ≡ true) × (n ≡ file_size k count)
 writing_ok k count room n e = (grind (arith, nat_tests), grind (arith, nat_tests))
 
-pub readings_back : (rs : List ReadingRecord) → allowed Readings (length rs) ≡ true → All WholeReading rs → content_read (file_of (of_readings rs)) ≡ Ok (of_readings rs)
+pub readings_back : (rs : List ReadingRecord) → allowed Readings (length rs) ≡ true → AllByRecursion WholeReading rs → content_read (file_of (of_readings rs)) ≡ Ok (of_readings rs)
 readings_back rs ok all =
     let body = flat_map encoded_reading rs in
     let long = length_joined encoded_reading 8 WholeReading reading_long rs all in
@@ -71,7 +71,7 @@ line_long l h = refl
 pub line_back : (l : Line) → WholeLine l → decoded_line (encoded_line l) ≡ l
 line_back l h = search rules
 
-pub lines_back : (ls : List Line) → allowed Statement (length ls) ≡ true → All WholeLine ls → content_read (file_of (of_statement ls)) ≡ Ok (of_statement ls)
+pub lines_back : (ls : List Line) → allowed Statement (length ls) ≡ true → AllByRecursion WholeLine ls → content_read (file_of (of_statement ls)) ≡ Ok (of_statement ls)
 lines_back ls ok all =
     let body = flat_map encoded_line ls in
     let long = length_joined encoded_line 11 WholeLine line_long ls all in
@@ -81,12 +81,12 @@ lines_back ls ok all =
 pub intro_back : (i : Intro) → WholeIntro i → decoded_intro (encoded_intro i) ≡ i
 intro_back i h = search rules
 
-pub length_schedule : (i : Intro) (rows : List AllocationRow) → All WholeRow rows → length (encoded_intro i ++ flat_map encoded_row rows) ≡ body_size Schedule (length rows)
+pub length_schedule : (i : Intro) (rows : List AllocationRow) → AllByRecursion WholeRow rows → length (encoded_intro i ++ flat_map encoded_row rows) ≡ body_size Schedule (length rows)
 length_schedule i rows all =
     let long = length_joined encoded_row row_size WholeRow row_long rows all in
     omega arith
 
-pub schedule_back : (i : Intro) (rows : List AllocationRow) → allowed Schedule (length rows) ≡ true → WholeIntro i → All WholeRow rows → content_read (file_of (of_schedule i.sender i.day i.moment rows)) ≡ Ok (of_schedule i.sender i.day i.moment rows)
+pub schedule_back : (i : Intro) (rows : List AllocationRow) → allowed Schedule (length rows) ≡ true → WholeIntro i → AllByRecursion WholeRow rows → content_read (file_of (of_schedule i.sender i.day i.moment rows)) ≡ Ok (of_schedule i.sender i.day i.moment rows)
 schedule_back i rows ok fits all =
     let body = encoded_intro i ++ flat_map encoded_row rows in
     let same = unpacked_joined encoded_row decoded_row row_size WholeRow row_long row_back rows all in

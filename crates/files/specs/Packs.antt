@@ -3,7 +3,7 @@ use Rattle.std.specs.Prelude.{◌≡◌, ℕ, zero, suc, ◌+◌, ◌-◌, ◌*�
 use Rattle.std.proofs.Common.{sym, ap, ◌∙◌, append_assoc, add-mul, mul-le-mul_right, zero-mul, one-mul, div-mul-le_self, arith, length-append, length-drop, Fits}
 use Rattle.std.specs.Int.{w8}
 use borrow.Rule.Slice.PartMut.{put_mid}
-use Rattle.std.specs.List.{flat_map, AllByRecursion as All, slice_get}
+use Rattle.std.specs.List.{flat_map, AllByRecursion, slice_get}
 use Rattle.files.specs.Bytes.{Bytes, unpacked}
 use Rattle.std.proofs.lemmas.List.{take_more, take_at, drop_at, drop-drop, length-take-le, flat_map_more, nil_from_length, take-append-drop, take_more_set, take-take, drop-take}
 use Rattle.std.proofs.ByRecursion.{All-from_get_or, All-take, All-drop}
@@ -21,7 +21,7 @@ pub joined_take_more : {X : Type 0} (e : X → List ℕ) (xs : List X) (i : ℕ)
 joined_take_more e xs i x h is =
     ap (flat_map e) (take_more xs i x h ∙ ap (λ y. take i xs ++ y ∷ []) (sym is)) ∙ sym (flat_map_more e [] (take i xs) x)
 
-pub length_joined : {X : Type 0} (e : X → List ℕ) (s : ℕ) (W : X → Type 0) → ((x : X) → W x → length (e x) ≡ s) → (xs : List X) → All W xs → length (flat_map e xs) ≡ length xs * s
+pub length_joined : {X : Type 0} (e : X → List ℕ) (s : ℕ) (W : X → Type 0) → ((x : X) → W x → length (e x) ≡ s) → (xs : List X) → AllByRecursion W xs → length (flat_map e xs) ≡ length xs * s
 length_joined e s W long [] all = sym (zero-mul s)
 length_joined e s W long (x ∷ xs) all =
     let rest = length_joined e s W long xs all.1 in
@@ -31,7 +31,7 @@ length_joined e s W long (x ∷ xs) all =
     let next : suc (length xs) * s ≡ (length xs + 1) * s = ap (λ n. n * s) (omega arith) in
     omega arith
 
-pub length_front : {X : Type 0} (e : X → List ℕ) (s : ℕ) (W : X → Type 0) → ((x : X) → W x → length (e x) ≡ s) → (xs : List X) (i : ℕ) → i ≤ length xs → All W (take i xs) → length (flat_map e (take i xs)) ≡ i * s
+pub length_front : {X : Type 0} (e : X → List ℕ) (s : ℕ) (W : X → Type 0) → ((x : X) → W x → length (e x) ≡ s) → (xs : List X) (i : ℕ) → i ≤ length xs → AllByRecursion W (take i xs) → length (flat_map e (take i xs)) ≡ i * s
 length_front e s W long xs i h all =
     length_joined e s W long (take i xs) all ∙ ap (λ n. n * s) (length-take-le i xs h)
 
@@ -74,7 +74,7 @@ length-unpacked d s zero bs = refl
 length-unpacked d s (suc n) bs = ap suc (length-unpacked d s n (drop s bs))
 
 -- records that are written and read back are the same records
-pub unpacked_joined : {X : Type 0} (e : X → List ℕ) (d : List ℕ → X) (s : ℕ) (W : X → Type 0) → ((x : X) → W x → length (e x) ≡ s) → ((x : X) → W x → d (e x) ≡ x) → (xs : List X) → All W xs → unpacked d s (length xs) (flat_map e xs) ≡ xs
+pub unpacked_joined : {X : Type 0} (e : X → List ℕ) (d : List ℕ → X) (s : ℕ) (W : X → Type 0) → ((x : X) → W x → length (e x) ≡ s) → ((x : X) → W x → d (e x) ≡ x) → (xs : List X) → AllByRecursion W xs → unpacked d s (length xs) (flat_map e xs) ≡ xs
 unfolding unpacked
 unpacked_joined e d s W long back [] all = refl
 unpacked_joined e d s W long back (x ∷ xs) all =

@@ -1,8 +1,8 @@
 -- The records of the files: how many bytes each has, which bytes those are, and what bytes stand for.
-use Rattle.std.specs.Prelude.{◌≡◌, ℕ, ◌+◌, ◌<◌, List, ◌∷◌, ◌++◌, length, drop, FitsSigned, slice_index}
+use Rattle.std.specs.Prelude.{◌≡◌, ℕ, ◌<◌, List, ◌∷◌, ◌++◌, length, drop, FitsSigned, slice_index}
 use Rattle.std.specs.Int.{w32}
 use Rattle.std.proofs.Common.{of_z, to_z}
-use Rattle.std.specs.List.{flat_map, AllByRecursion as All}
+use Rattle.std.specs.List.{flat_map, AllByRecursion}
 use Rattle.domain.specs.Limits.{nominations_of_row}
 use Rattle.domain.specs.declared.AllocationRow.{AllocationRow}
 use Rattle.domain.specs.declared.Line.{Line}
@@ -28,7 +28,7 @@ decoded_row bs = record { method = slice_index bs 0; balance = slice_index bs 1;
 
 -- a row of the code has as many nominations as it should, each of 32 bits
 abbrev pub WholeRow : AllocationRow → Type 0
-WholeRow row = (length row.nominations ≡ nominations_of_row) × All Whole32 row.nominations
+WholeRow row = (length row.nominations ≡ nominations_of_row) × AllByRecursion Whole32 row.nominations
 
 -- bytes of a reading: day, period, quality and kWh
 abbrev pub reading_size : ℕ

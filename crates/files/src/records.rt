@@ -1,7 +1,7 @@
 // Records of a fixed number of bytes, and lists of them one after the other.
 
 ghost use Rattle.std.specs.Prelude.{◌≡◌, ℕ, ◌+◌, ◌-◌, ◌*◌, ◌/◌, ◌<◌, ◌≤◌, List, ◌++◌, length, drop};
-ghost use Rattle.std.specs.List.{flat_map, AllByRecursion as All};
+ghost use Rattle.std.specs.List.{flat_map, AllByRecursion};
 ghost use Rattle.files.specs.Bytes.{Bytes, word32, number32, unpacked, record_in};
 ghost use Rattle.files.specs.Records.{Whole32, row_size, encoded_row, decoded_row, WholeRow, reading_size, encoded_reading, decoded_reading, WholeReading, line_size, encoded_line, decoded_line, WholeLine, intro_size, encoded_intro, decoded_intro, WholeIntro};
 ghost use Rattle.files.specs.Laws.{number_again, reading_again, line_again, row_long, row_back, row_again, intro_again};
@@ -57,7 +57,7 @@ pub(crate) trait Record: Copy {
 pub(crate) fn write_records<R: Record>(records: &[R], out: &mut [u8])
     requires { length records.now * R.Record.size ≤ length out.old }
     ensures after { out.new ≡ flat_map R.Record.encoded records.now ++ drop (length records.now * R.Record.size) out.old }
-    ensures fits { All R.Record.whole records.now }
+    ensures fits { AllByRecursion R.Record.whole records.now }
 {
     let size = R::size();
     for (i, record) in records.iter().enumerate() {

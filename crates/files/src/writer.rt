@@ -1,7 +1,7 @@
 // Writing: files of the three kinds from records, the notice, and an accepted file again.
 
 ghost use Rattle.std.specs.Prelude.{◌≡◌, ◌+◌, ◌*◌, ◌<◌, ◌≤◌, ◌++◌, length, take, IfOk, Ok, OnOk};
-ghost use Rattle.std.specs.List.{flat_map, AllByRecursion as All};
+ghost use Rattle.std.specs.List.{flat_map, AllByRecursion};
 ghost use Rattle.files.specs.Records.{encoded_intro, WholeIntro, encoded_row, WholeRow};
 ghost use Rattle.files.specs.Formats.{kind_number, header_of, statement_size};
 ghost use Rattle.files.specs.Contents.{of_schedule, of_readings, of_statement, file_of, content_read, rewritten, writing, rewriting, over, settled, notice_of};
@@ -31,7 +31,7 @@ fn write_list<R: Record>(kind: Kind, records: &[R], out: &mut [u8])
     requires few { length records.now < 65536 }
     requires room { 8 + length records.now * R.Record.size ≤ length out.old }
     ensures after { out.new ≡ over (header_of (kind_number kind) (length records.now) ++ flat_map R.Record.encoded records.now) out.old }
-    ensures fits { All R.Record.whole records.now }
+    ensures fits { AllByRecursion R.Record.whole records.now }
 {
     write_header(kind, records.len() as u16, out);
     write_records(records, &mut out[HEADER..]);
@@ -63,7 +63,7 @@ pub fn write_statement(lines: &[Line], out: &mut [u8]) -> Result<usize, Fault>
 fn write_rows(intro: Intro, rows: &[AllocationRow], out: &mut [u8])
     requires { 8 + length rows.now * 34 ≤ length out.old }
     ensures after { out.new ≡ over (encoded_intro intro ++ flat_map encoded_row rows.now) out.old }
-    ensures fits { WholeIntro intro × All WholeRow rows.now }
+    ensures fits { WholeIntro intro × AllByRecursion WholeRow rows.now }
 {
     intro.encode(&mut out[0..INTRO]);
     write_records(rows, &mut out[INTRO..]);
