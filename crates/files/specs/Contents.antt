@@ -1,5 +1,5 @@
 -- What a file holds, as records, and the bytes of a file that holds it.
-use Rattle.std.specs.Prelude.{ℕ, ◌+◌, cond, List, ◌++◌, length, drop, Ok, Err, Result, ◌==◌, nat_le, slice_index}
+use Rattle.std.specs.Prelude.{ℕ, cond, List, ◌++◌, length, drop, Ok, Err, Result, ◌==◌, nat_le, slice_index}
 use Rattle.std.specs.List.{flat_map}
 use Rattle.domain.specs.declared.Fault.{Fault}
 use Rattle.domain.specs.declared.Fault.TheVariants.{CountNotAllowed, OutputTooShort}

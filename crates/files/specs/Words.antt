@@ -2,7 +2,7 @@
 use Rattle.std.specs.Prelude.{◌≡◌, ℕ, zero, suc, ◌+◌, ◌*◌, ◌/◌, ◌%◌, ◌<◌, ◌≤◌, List, [], ◌∷◌, ◌++◌, length, drop, slice_index}
 use Rattle.std.proofs.Common.{sym, ap, subst, ◌∙◌, arith}
 use Rattle.std.proofs.lemmas.List.{drop_more, drop_all}
-use Rattle.files.specs.Bytes.{Bytes, word16, word32}
+use Rattle.files.specs.Bytes.{word16, word32}
 
 -- the n bytes from the place i on, one by one
 abbrev pub listed : ℕ → ℕ → List ℕ → List ℕ

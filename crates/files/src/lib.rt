@@ -1,4 +1,5 @@
 // Files between suppliers and collectors: read, written, and read back to the same records.
+#![tactic(auto)]
 
 mod formats;
 mod reader;

@@ -1,4 +1,5 @@
 // Tests of the files: each refusal, the boundaries, and round trips. There is nothing here but tests.
+#![tactic(auto)]
 
 #[cfg(test)]
 mod tests {

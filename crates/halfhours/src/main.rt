@@ -1,4 +1,6 @@
 // Splits the half hours of a table that it reads from standard input.
+#![tactic(auto)]
+
 use recount::Recount;
 use rules::House;
 use std::io;

@@ -1,5 +1,7 @@
 // What is printed of a file, for a person.
 
+#![tactic(auto)]
+
 ghost use Rattle.std.specs.Prelude.{◌≡◌, ◌++◌, IfOk, string_bytes, OnOk};
 ghost use Rattle.std.specs.List.{flat_map};
 ghost use Rattle.files.specs.Reads.{told_schedule, told_readings, told_statement};
@@ -7,8 +9,7 @@ ghost use Rattle.listing.specs.Texts.{spaced, row_text, reading_text, line_text,
 
 use domain::{AllocationRow, Fault, Line};
 use files::{File, MAX_FILE, ReadingRecord, ReadingsFile, ScheduleFile, StatementFile, read};
-use std::alloc::Global;
-use std::fmt;
+use std::alloc::{AllocError, Global};
 
 // What a refusal means.
 fn meaning(fault: Fault) -> &'static str
@@ -40,7 +41,7 @@ fn meaning(fault: Fault) -> &'static str
 }
 
 // Adds a refusal to the text.
-fn put_refusal(text: &mut String, fault: Fault) -> fmt::Result
+fn put_refusal(text: &mut String, fault: Fault) -> Result<(), AllocError>
     ensures { OnOk result (string_bytes text.new ≡ string_bytes text.old ++ refusal_text fault) }
 {
     let number = fault.number();
@@ -50,7 +51,7 @@ fn put_refusal(text: &mut String, fault: Fault) -> fmt::Result
 }
 
 // Adds nominations to the text, each behind a space.
-fn put_nominations(text: &mut String, nominations: &[u32]) -> fmt::Result
+fn put_nominations(text: &mut String, nominations: &[u32]) -> Result<(), AllocError>
     ensures { OnOk result (string_bytes text.new ≡ string_bytes text.old ++ flat_map spaced nominations.now) }
 {
     for nomination in nominations {
@@ -60,7 +61,7 @@ fn put_nominations(text: &mut String, nominations: &[u32]) -> fmt::Result
 }
 
 // Adds a row's line to the text.
-fn put_row(text: &mut String, period: usize, row: AllocationRow) -> fmt::Result
+fn put_row(text: &mut String, period: usize, row: AllocationRow) -> Result<(), AllocError>
     ensures { OnOk result (string_bytes text.new ≡ string_bytes text.old ++ row_text period row) }
 {
     let method = row.method;
@@ -72,7 +73,7 @@ fn put_row(text: &mut String, period: usize, row: AllocationRow) -> fmt::Result
 }
 
 // Adds a reading's line to the text.
-fn put_reading(text: &mut String, reading: ReadingRecord) -> fmt::Result
+fn put_reading(text: &mut String, reading: ReadingRecord) -> Result<(), AllocError>
     ensures { OnOk result (string_bytes text.new ≡ string_bytes text.old ++ reading_text reading) }
 {
     let ReadingRecord {
@@ -85,7 +86,7 @@ fn put_reading(text: &mut String, reading: ReadingRecord) -> fmt::Result
 }
 
 // Adds a statement's line to the text.
-fn put_line(text: &mut String, line: Line) -> fmt::Result
+fn put_line(text: &mut String, line: Line) -> Result<(), AllocError>
     ensures { OnOk result (string_bytes text.new ≡ string_bytes text.old ++ line_text line) }
 {
     let Line {
@@ -100,7 +101,7 @@ fn put_line(text: &mut String, line: Line) -> fmt::Result
 }
 
 // Adds a schedule to the text.
-fn put_schedule(text: &mut String, file: ScheduleFile<'_>) -> fmt::Result
+fn put_schedule(text: &mut String, file: ScheduleFile<'_>) -> Result<(), AllocError>
     ensures { OnOk result (string_bytes text.new ≡ string_bytes text.old ++ told_text (told_schedule file.entry)) }
 {
     let ScheduleFile {
@@ -123,7 +124,7 @@ fn put_schedule(text: &mut String, file: ScheduleFile<'_>) -> fmt::Result
 }
 
 // Adds a readings file to the text.
-fn put_readings(text: &mut String, file: ReadingsFile<'_>) -> fmt::Result
+fn put_readings(text: &mut String, file: ReadingsFile<'_>) -> Result<(), AllocError>
     ensures { OnOk result (string_bytes text.new ≡ string_bytes text.old ++ told_text (told_readings file.entry)) }
 {
     let count = file.count;
@@ -137,7 +138,7 @@ fn put_readings(text: &mut String, file: ReadingsFile<'_>) -> fmt::Result
 }
 
 // Adds a statement to the text.
-fn put_statement(text: &mut String, file: StatementFile<'_>) -> fmt::Result
+fn put_statement(text: &mut String, file: StatementFile<'_>) -> Result<(), AllocError>
     ensures { OnOk result (string_bytes text.new ≡ string_bytes text.old ++ told_text (told_statement file.entry)) }
 {
     let count = file.count;
@@ -154,7 +155,7 @@ fn put_statement(text: &mut String, file: StatementFile<'_>) -> fmt::Result
 }
 
 // The text that is printed of the bytes. It fails only for want of memory.
-pub fn listing(heap: Global, input: &[u8]) -> Result<String, fmt::Error>
+pub fn listing(heap: Global, input: &[u8]) -> Result<String, AllocError>
     ensures { IfOk result (λ s. string_bytes s ≡ listing_of input.now) }
 {
     let mut text = String::new(heap);

@@ -1,4 +1,6 @@
 // A rule outside the house, to show that what stands on rules takes any of them.
+#![tactic(auto)]
+
 ghost use Rattle.std.specs.Prelude.{◌≡◌};
 ghost use Rattle.rules.specs.Meaning.{answered};
 ghost use Rattle.rules.specs.Agreed.{agreed};

@@ -1,4 +1,6 @@
 // What one line of a season's text says: a call, with its numbers.
+#![tactic(auto)]
+
 ghost use Rattle.std.specs.Prelude.{◌≡◌, Some};
 ghost use Rattle.text.specs.Words.{words_of, uncommented};
 ghost use Rattle.seasonlines.specs.Slips.{slip_of, slip_text};

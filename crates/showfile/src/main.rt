@@ -1,4 +1,5 @@
 // Prints the file on standard input for a person.
+#![tactic(auto)]
 
 use files::MAX_FILE;
 use listing::listing;

@@ -1,8 +1,5 @@
-use Rattle.std.proofs.Common.{◌≡◌, ℕ, ◌+◌, true, false, List, [], ◌∷◌, ◌++◌, ℤ, codes, sym, refl, ap, ◌∙◌, ⊎_elim, append_assoc, append-nil, add-one, arith}
+use Rattle.std.proofs.Common.{◌≡◌, ℕ, ◌+◌, List, [], ◌∷◌, ◌++◌, ℤ, codes, sym, refl, ap, ◌∙◌, append_assoc, append-nil, add-one, arith}
 use Rattle.std.specs.Fmt.{signed_decimal}
-use Rattle.std.specs.Str.{bytes_eq}
-use Rattle.std.proofs.lemmas.Slice.Eq.{bytes_eq-Decides}
-use Rattle.std.proofs.lemmas.Bool.{cases_Bool}
 use Rattle.rules.specs.Meaning.{Meaning}
 use Rattle.worksheet.specs.Figures.{shares_text}
 use Rattle.worksheet.specs.Lines.{line_text, line_outcome}
@@ -38,13 +35,6 @@ tally_from_more m k t l ls = refl
 -- one more share is written
 pub shares_push : (share : ℕ → ℤ) (n : ℕ) (before word after : List ℕ) (z : ℤ) → before ≡ shares_text share n → word ≡ codes " " ++ signed_decimal z → z ≡ share n → after ≡ before ++ word → after ≡ shares_text share (n + 1)
 shares_push share n before word after z so is same push = let more = shares_text_more share n in cc
-
--- the texts of two figures, told apart or not
-pub same_text : (x y : List ℕ) → x ≡ y → bytes_eq x y ≡ true
-same_text x y e = (bytes_eq-Decides x y).1 e
-
-pub other_text : (x y : List ℕ) → (x ≡ y → ⊥) → bytes_eq x y ≡ false
-other_text x y ne = ⊎_elim (λ (e : bytes_eq x y ≡ true). absurd (ne ((bytes_eq-Decides x y).0 e))) (λ (e : bytes_eq x y ≡ false). e) (cases_Bool (bytes_eq x y))
 
 -- one line is answered, of those that are left
 module _ (m k : Meaning) (n : ℕ) (line : List ℕ) (rest left all : List (List ℕ)) (split : left ≡ line ∷ rest) where

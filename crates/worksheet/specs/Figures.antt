@@ -1,4 +1,4 @@
-use Rattle.std.specs.Prelude.{ℕ, zero, suc, Bool, cond, List, [], ◌∷◌, ◌++◌, length, ℤ, codes}
+use Rattle.std.specs.Prelude.{ℕ, zero, suc, cond, List, [], ◌++◌, length, ℤ, codes}
 use Rattle.std.specs.Fmt.{signed_decimal}
 use Rattle.rules.specs.Meaning.{Meaning, answered}
 use Rattle.entries.specs.Held.{Half}

@@ -1,4 +1,6 @@
 // A table of half hours, answered line by line: each is split by a rule, beside a second rule that checks it.
+#![tactic(auto)]
+
 ghost use Rattle.std.specs.Prelude.{◌≡◌, ◌-◌, ◌^◌, IfOk, if◌then◌else◌, string_bytes};
 ghost use Rattle.entries.specs.Held.{held};
 ghost use Rattle.worksheet.specs.declared.Outcome.TheVariants.{Split, Unlawful};

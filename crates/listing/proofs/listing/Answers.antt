@@ -5,9 +5,9 @@ use Rattle.files.specs.Reads.{read_of}
 use Rattle.listing.specs.Texts.{answer_text}
 use Rattle.listing.proofs.listing.Goals as goal
 
-pub returns-then-input-gt-MAX-FILE : goal.returns-then-input-gt-MAX-FILE
-returns-then-input-gt-MAX-FILE c =
+pub returns-then-input-gt-MAX_FILE : goal.returns-then-input-gt-MAX_FILE
+returns-then-input-gt-MAX_FILE c =
     let bs = c.args.input.now in
     let long : ltb most_bytes (length bs) ≡ true = grind (arith, nat_tests) in
     let said = codes "more bytes than a file can have: at most 45064\n" in
-    c.in-ok-write.ensures.bytes ∙ ap (λ t. t ++ said) c.new-text.ensures.bytes ∙ sym (ap (λ b. cond b said (answer_text (read_of bs))) long)
+    c.in_ok-write.ensures.bytes ∙ ap (λ t. t ++ said) c.new-text.ensures.bytes ∙ sym (ap (λ b. cond b said (answer_text (read_of bs))) long)

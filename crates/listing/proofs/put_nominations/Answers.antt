@@ -10,7 +10,7 @@ pub loop-nomination-preserved : goal.loop-nomination-preserved
 loop-nomination-preserved c =
     let xs = c.args.nominations.now in
     let i = c.loop-nomination.nomination-index in
-    text_more spaced xs i (get_or xs i 0) (string_bytes c.args.text.now) (string_bytes c.loop-nomination.text) (string_bytes c.write.new.self) (slice_get-get_or xs i 0 (omega arith)) c.loop-nomination.invariant c.in-ok-write.ensures.bytes
+    text_more spaced xs i (get_or xs i 0) (string_bytes c.args.text.now) (string_bytes c.loop-nomination.text) (string_bytes c.write.new.self) (slice_get-get_or xs i 0 (omega arith)) c.loop-nomination.invariant c.in_ok-write.ensures.bytes
 
 pub returns : goal.returns
 returns c =

@@ -24,11 +24,11 @@ loop-reading-preserved c =
     let long = length-unpacked decoded_reading reading_size n bs in
     let below = nth_below xs i c.in-Some.reading (sym c.in-Some.ensures) in (
       omega arith,
-      text_more reading_text xs i c.in-Some.reading (string_bytes c.write.new.self) (string_bytes c.loop-reading.text) (string_bytes c.put-reading.new.text) (sym c.in-Some.ensures) c.loop-reading.invariant.1 c.in-ok-put-reading.ensures,
+      text_more reading_text xs i c.in-Some.reading (string_bytes c.write.new.self) (string_bytes c.loop-reading.text) (string_bytes c.put_reading.new.text) (sym c.in-Some.ensures) c.loop-reading.invariant.1 c.in_ok-put_reading.ensures,
     )
 
 pub returns : goal.returns
 returns c =
     let bs = c.args.file.records.now in
     let xs = unpacked decoded_reading reading_size (length bs / reading_size) bs in
-    text_end reading_text xs c.loop-reading.index (string_bytes c.args.text.now) _ (string_bytes c.write.new.self) (string_bytes c.loop-reading.text) (sym c.in-default.ensures) c.loop-reading.invariant.1 c.in-ok-write.ensures.bytes
+    text_end reading_text xs c.loop-reading.index (string_bytes c.args.text.now) _ (string_bytes c.write.new.self) (string_bytes c.loop-reading.text) (sym c.in_default.ensures) c.loop-reading.invariant.1 c.in_ok-write.ensures.bytes

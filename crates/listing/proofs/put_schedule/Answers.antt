@@ -26,11 +26,11 @@ loop-row-preserved c =
     let long = length-unpacked decoded_row row_size n bs in
     let below = nth_below xs i c.in-Some.row (sym c.in-Some.ensures) in (
       omega arith,
-      rows_more 1 xs i (i + 1) c.in-Some.row (string_bytes c.write.new.self) (string_bytes c.loop-row.text) (string_bytes c.put-row.new.text) (sym c.in-Some.ensures) (omega arith) c.loop-row.invariant.1 c.in-ok-put-row.ensures,
+      rows_more 1 xs i (i + 1) c.in-Some.row (string_bytes c.write.new.self) (string_bytes c.loop-row.text) (string_bytes c.put_row.new.text) (sym c.in-Some.ensures) (omega arith) c.loop-row.invariant.1 c.in_ok-put_row.ensures,
     )
 
 pub returns : goal.returns
 returns c =
     let bs = c.args.file.rows.now in
     let xs = unpacked decoded_row row_size (length bs / row_size) bs in
-    rows_end 1 xs c.loop-row.index (string_bytes c.args.text.now) _ (string_bytes c.write.new.self) (string_bytes c.loop-row.text) (sym c.in-default.ensures) c.loop-row.invariant.1 c.in-ok-write.ensures.bytes
+    rows_end 1 xs c.loop-row.index (string_bytes c.args.text.now) _ (string_bytes c.write.new.self) (string_bytes c.loop-row.text) (sym c.in_default.ensures) c.loop-row.invariant.1 c.in_ok-write.ensures.bytes

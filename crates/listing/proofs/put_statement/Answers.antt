@@ -24,11 +24,11 @@ loop-line-preserved c =
     let long = length-unpacked decoded_line line_size n bs in
     let below = nth_below xs i c.in-Some.line (sym c.in-Some.ensures) in (
       omega arith,
-      text_more line_text xs i c.in-Some.line (string_bytes c.write.new.self) (string_bytes c.loop-line.text) (string_bytes c.put-line.new.text) (sym c.in-Some.ensures) c.loop-line.invariant.1 c.in-ok-put-line.ensures,
+      text_more line_text xs i c.in-Some.line (string_bytes c.write.new.self) (string_bytes c.loop-line.text) (string_bytes c.put_line.new.text) (sym c.in-Some.ensures) c.loop-line.invariant.1 c.in_ok-put_line.ensures,
     )
 
 pub returns : goal.returns
 returns c =
     let bs = c.args.file.lines.now in
     let xs = unpacked decoded_line line_size (length bs / line_size) bs in
-    text_end line_text xs c.loop-line.index (string_bytes c.args.text.now) _ (string_bytes c.write.new.self) (string_bytes c.loop-line.text) (sym c.in-default.ensures) c.loop-line.invariant.1 c.in-ok-write.ensures.bytes
+    text_end line_text xs c.loop-line.index (string_bytes c.args.text.now) _ (string_bytes c.write.new.self) (string_bytes c.loop-line.text) (sym c.in_default.ensures) c.loop-line.invariant.1 c.in_ok-write.ensures.bytes

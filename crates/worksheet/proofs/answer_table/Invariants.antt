@@ -1,4 +1,4 @@
-use Rattle.std.proofs.Common.{◌≡◌, ◌+◌, ◌<◌, ◌≤◌, ◌++◌, length, string_bytes}
+use Rattle.std.proofs.Common.{◌≡◌, ◌+◌, ◌≤◌, ◌++◌, length, string_bytes}
 use Rattle.text.specs.Words.{lines_of}
 use Rattle.worksheet.specs.Tables.{Under, tally_of, tally_from, lines_text}
 use Rattle.worksheet.proofs.answer_table.Given as goal
