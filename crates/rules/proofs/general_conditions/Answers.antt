@@ -1,4 +1,4 @@
-use Rattle.rules.specs.Housed.{house_general}
+use Rattle.rules.proofs.Conditions.{house_general}
 use Rattle.rules.proofs.general_conditions.Goals as goal
 
 pub returns : goal.returns
