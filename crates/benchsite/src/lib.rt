@@ -1,4 +1,6 @@
 // The library behind a boundary of numbers and bytes, for a benchmark: calls are decoded and made on one book, and what came of each and all lines that were sent are encoded.
+#![tactic(auto)]
+
 use book::Book;
 use domain::{AllocationRow, Line, NOMINATIONS, Reading, Slot, Terms, issued_slots, reading_slots};
 use history::Dated;

@@ -1,4 +1,6 @@
 // The book of one shared meter in one direction, and its calls.
+#![tactic(auto)]
+
 ghost use Rattle.std.specs.Prelude.{◌≡◌, ℕ, ◌+◌, ◌*◌, ◌<◌, ◌≤◌, Bool, length, replicate};
 ghost use Rattle.domain.specs.Checks.{settled, no_reading, no_volume};
 ghost use Rattle.book.specs.Kept.{kept, opened};

@@ -1,4 +1,5 @@
 // Tests of the book: every refusal of every call, at its limit from both sides, and which of two comes first.
+#![tactic(auto)]
 
 #[cfg(test)]
 mod blanking;

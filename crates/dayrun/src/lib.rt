@@ -1,4 +1,6 @@
 // One day of a site with two suppliers: a schedule and its readings in, the lines that are sent out.
+#![tactic(auto)]
+
 ghost use Rattle.std.specs.Prelude.{◌≡◌, ◌++◌, take, drop, IfOk, string_bytes, OnOk};
 ghost use Rattle.std.specs.List.{flat_map};
 ghost use Rattle.files.specs.Reads.{seen_by};
@@ -193,7 +195,11 @@ fn put_lines(text: &mut String, journal: &[Line], sent: usize) -> Result<(), All
 }
 
 // Adds the lines that were sent to the text, or only the refusal.
-fn put_answer(text: &mut String, journal: &[Line], answer: Result<usize, Fault>) -> Result<(), AllocError>
+fn put_answer(
+    text: &mut String,
+    journal: &[Line],
+    answer: Result<usize, Fault>,
+) -> Result<(), AllocError>
     ensures { OnOk result (string_bytes text.new ≡ string_bytes text.old ++ answer_text (seen_by (λ sent. take sent journal.now) answer)) }
 {
     match answer {
@@ -203,7 +209,11 @@ fn put_answer(text: &mut String, journal: &[Line], answer: Result<usize, Fault>)
 }
 
 // Runs the day on blank tables, and adds what comes of it to the text.
-fn put_day(text: &mut String, files: DayFiles<'_>, schedule: &[AllocationRow]) -> Result<(), AllocError>
+fn put_day(
+    text: &mut String,
+    files: DayFiles<'_>,
+    schedule: &[AllocationRow],
+) -> Result<(), AllocError>
     ensures { OnOk result (string_bytes text.new ≡ string_bytes text.old ++ answer_text (day_sent site_terms start files.entry.schedule.sender files.entry.schedule.day files.entry.schedule.moment schedule.now (readings_in files.entry.readings.records.now))) }
 {
     let mut holders = [NO_HOLDER; 2];

@@ -1,4 +1,5 @@
 // Tests of a site's day: inputs with what is printed for them. There is nothing here but tests.
+#![tactic(auto)]
 
 #[cfg(test)]
 mod tests {

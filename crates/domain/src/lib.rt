@@ -1,4 +1,5 @@
 // What every layer speaks of: the limits of the subject, the refusals and the plain records.
+#![tactic(auto)]
 
 ghost use Rattle.std.specs.Prelude.{◌≡◌, ◌+◌, ◌-◌, ◌*◌, Ok, Err};
 ghost use Rattle.domain.specs.Refusals.{refused, number_of_table, number_of_term};

@@ -1,4 +1,6 @@
 // A half hour and its row, read from the words of a line: PERIOD KWH METHOD CAPACITY BALANCE NOMINATION…
+#![tactic(auto)]
+
 ghost use Rattle.std.specs.Prelude.{◌≡◌, ◌≤◌, drop, IfOk, Some};
 ghost use Rattle.text.specs.Words.{words_of};
 ghost use Rattle.rules.specs.Agreed.{agreed};

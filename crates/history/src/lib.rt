@@ -1,4 +1,6 @@
 // Dated histories: what was put for a subject on a day, and what is in force on any other.
+#![tactic(auto)]
+
 ghost use Rattle.std.specs.Prelude.{◌≡◌, ℕ, ◌+◌, ◌^◌, ◌<◌, ◌≤◌, length, take, is_some, IfSome, if◌then◌else◌, Some, None, MatchOption, MatchResult, slice_index_or};
 ghost use Rattle.domain.specs.Limits.{periods};
 ghost use Rattle.domain.specs.declared.Fault.TheVariants.{Spoiled};

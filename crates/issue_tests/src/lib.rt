@@ -1,4 +1,5 @@
 // Tests of issuing: every refusal of an issue, at its limit from both sides, and which of two comes first; what needs an issue before it; and long lists of calls beside a second calculation, one beside a simple count of the sums.
+#![tactic(auto)]
 
 #[cfg(test)]
 mod closing;

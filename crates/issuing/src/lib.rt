@@ -1,4 +1,6 @@
 // Issuing a day: what is sent, and what the tables hold then.
+#![tactic(auto)]
+
 ghost use Rattle.std.specs.Prelude.{◌≡◌, ◌+◌, length, Ok, Err, MatchResult};
 ghost use Rattle.domain.specs.Checks.{settled};
 ghost use Rattle.issuing.specs.Posted.{posted};

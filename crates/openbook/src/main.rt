@@ -1,4 +1,6 @@
 // Opens the book of a small harbour's meter and makes its first calls, one line for each.
+#![tactic(auto)]
+
 ghost use Rattle.std.specs.Prelude.{◌≡◌, IfOk};
 ghost use Rattle.files.specs.Contents.{notice_of};
 

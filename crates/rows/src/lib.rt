@@ -1,4 +1,6 @@
 // Rows of a schedule, as a rule judges and splits them in a book of given terms.
+#![tactic(auto)]
+
 ghost use Rattle.std.specs.Prelude.{◌≡◌};
 ghost use Rattle.std.specs.Option.{option_map};
 ghost use Rattle.rules.specs.Agreed.{agreed};

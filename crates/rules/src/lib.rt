@@ -1,4 +1,6 @@
 // Rules that split the energy of a half hour between the places of a shared meter.
+#![tactic(auto)]
+
 ghost use Rattle.std.specs.Prelude.{◌≡◌, ℕ, ◌-◌, ◌*◌, ◌^◌, ◌<◌, ◌≤◌, true, false, [], ◌∷◌, length, pos, if◌then◌else◌, Some, None, sum, MatchOption, slice_index_or};
 ghost use Rattle.rules.specs.Meaning.{Meaning, Laws, answered, in_range};
 ghost use Rattle.rules.specs.Agreed.{agreed};

@@ -1,4 +1,6 @@
 // Runs the three sample seasons, each as it is printed and then quietly.
+#![tactic(auto)]
+
 use seasontext::season_text;
 use std::fs;
 use std::io::Write;

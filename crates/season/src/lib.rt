@@ -1,4 +1,6 @@
 // A season: a list of calls, run one after the other on one book.
+#![tactic(auto)]
+
 ghost use Rattle.season.specs.Granted.{LinesAddUp};
 ghost use Rattle.season.specs.Worked.{WorkedExamples};
 ghost use Rattle.std.specs.Prelude.{◌≡◌, take, IfOk, OnErr};

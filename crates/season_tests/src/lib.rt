@@ -1,4 +1,5 @@
 // Seasons that are replayed: the lines that correct a late reading and a new holder, by the house rule and by a rule from outside it.
+#![tactic(auto)]
 
 #[cfg(test)]
 mod tests {

@@ -1,4 +1,6 @@
 // Runs the season on standard input, and prints what comes of its calls. With `--quiet` it prints only refusals, lines that are no call, and the two tables.
+#![tactic(auto)]
+
 use anyhow::anyhow;
 use seasontext::season_text;
 use std::env;

@@ -1,4 +1,6 @@
 // A season: its calls run on one book, and what is printed of it.
+#![tactic(auto)]
+
 ghost use Rattle.std.specs.Prelude.{◌≡◌, Bool, [], ◌++◌, IfOk, string_bytes, OnOk};
 ghost use Rattle.text.specs.Words.{lines_of};
 ghost use Rattle.seasontext.specs.Agreeing.{SeasonsAgree};

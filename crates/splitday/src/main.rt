@@ -1,4 +1,5 @@
 // Prints what is sent for the schedule and the readings on standard input.
+#![tactic(auto)]
 
 use dayrun::{MAX_INPUT, split_day};
 use std::io::{Read, Write};

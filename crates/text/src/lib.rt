@@ -1,4 +1,6 @@
 // Lines, words and decimal numbers in bytes that need not be text.
+#![tactic(auto)]
+
 ghost use Rattle.std.specs.Prelude.{◌≡◌, ◌<◌, ◌≤◌, true, not, [], length, drop, if◌then◌else◌, Some, None, MatchBool, ◌==◌, nat_le};
 ghost use Rattle.std.specs.List.{prefix_len};
 ghost use Rattle.std.specs.Str.{all_ascii_digits};
