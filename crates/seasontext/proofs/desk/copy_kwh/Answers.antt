@@ -9,6 +9,6 @@ loop-index-init c = sym (copied_none c.args.readings.now c.args.first c.args.spl
 pub loop-index-preserved : goal.loop-index-preserved
 loop-index-preserved c =
     elim c.if-slot-split.branch [
-      | then-slot-split w ↦ copied_turn c.args.readings.now c.args.first c.loop-index.index c.kwh-at-kwh.result c.args.split.now c.loop-index.split c.if-slot-split.split c.kwh-at-kwh.ensures c.loop-index.invariant w.split-is
-      | else-slot-split w ↦ copied_past c.args.readings.now c.args.first c.loop-index.index c.kwh-at-kwh.result c.args.split.now c.loop-index.split c.if-slot-split.split c.kwh-at-kwh.ensures c.loop-index.invariant (omega (arith, w.if-slot-split.false)) w.split-is
+      | then-slot-split w ↦ copied_turn c.args.readings.now c.args.first c.loop-index.index c.kwh_at-kwh.result c.args.split.now c.loop-index.split c.if-slot-split.split c.kwh_at-kwh.ensures c.loop-index.invariant w.split-is
+      | else-slot-split w ↦ copied_past c.args.readings.now c.args.first c.loop-index.index c.kwh_at-kwh.result c.args.split.now c.loop-index.split c.if-slot-split.split c.kwh_at-kwh.ensures c.loop-index.invariant (omega (arith, w.if-slot-split.false)) w.split-is
     ]

@@ -12,5 +12,5 @@ pub loop-index-preserved : goal.loop-index-preserved
 loop-index-preserved c =
     let ls = c.args.lines.now in
     let i = c.loop-index.index in
-    let part = c.split-at-part.ensures ∙ ap (λ x. get_or c.args.split.now x None) c.reading-slot.ensures in
-    gathered_turn (λ i. period_text ls c.args.day (i + 1) (get_or c.args.split.now (reading_slot c.args.day (i + 1)) None)) i (string_bytes c.args.text.now) (string_bytes c.loop-index.text) (string_bytes c.put-period.new.text) c.loop-index.invariant (c.in-ok-put-period.ensures ∙ ap (λ x. string_bytes c.loop-index.text ++ period_text ls c.args.day (i + 1) x) part)
+    let part = c.split_at-part.ensures ∙ ap (λ x. get_or c.args.split.now x None) c.reading_slot.ensures in
+    gathered_turn (λ i. period_text ls c.args.day (i + 1) (get_or c.args.split.now (reading_slot c.args.day (i + 1)) None)) i (string_bytes c.args.text.now) (string_bytes c.loop-index.text) (string_bytes c.put_period.new.text) c.loop-index.invariant (c.in_ok-put_period.ensures ∙ ap (λ x. string_bytes c.loop-index.text ++ period_text ls c.args.day (i + 1) x) part)

@@ -8,4 +8,4 @@ loop-day-init c = gathered_begin (day_text c.args.lines.now c.args.split.now) (s
 
 pub loop-day-preserved : goal.loop-day-preserved
 loop-day-preserved c =
-    gathered_turn (day_text c.args.lines.now c.args.split.now) c.loop-day.day (string_bytes c.args.text.now) (string_bytes c.loop-day.text) (string_bytes c.put-day.new.text) c.loop-day.invariant c.in-ok-put-day.ensures
+    gathered_turn (day_text c.args.lines.now c.args.split.now) c.loop-day.day (string_bytes c.args.text.now) (string_bytes c.loop-day.text) (string_bytes c.put_day.new.text) c.loop-day.invariant c.in_ok-put_day.ensures

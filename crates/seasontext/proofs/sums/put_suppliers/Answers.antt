@@ -11,4 +11,4 @@ pub loop-supplier-preserved : goal.loop-supplier-preserved
 loop-supplier-preserved c =
     let ls = c.args.lines.now in
     let s = c.loop-supplier.supplier in
-    gathered_turn (λ s. supplier_text ls s (get_or c.args.flags.now s false)) s (string_bytes c.args.text.now) (string_bytes c.loop-supplier.text) (string_bytes c.put-supplier.new.text) c.loop-supplier.invariant (c.in-ok-put-supplier.ensures ∙ ap (λ x. string_bytes c.loop-supplier.text ++ supplier_text ls s x) c.is-set.ensures)
+    gathered_turn (λ s. supplier_text ls s (get_or c.args.flags.now s false)) s (string_bytes c.args.text.now) (string_bytes c.loop-supplier.text) (string_bytes c.put_supplier.new.text) c.loop-supplier.invariant (c.in_ok-put_supplier.ensures ∙ ap (λ x. string_bytes c.loop-supplier.text ++ supplier_text ls s x) c.is_set.ensures)

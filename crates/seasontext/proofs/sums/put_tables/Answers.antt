@@ -9,10 +9,10 @@ pub returns : goal.returns
 unfolding tables_text
 returns c =
     let ls = c.args.lines.now in
-    let flags = c.in-ok-flags.flags in
-    let blank : vec_items flags ≡ replicate suppliers false = c.in-ok-flags.ensures.items-if-clones-equal (λ y e. e) in
-    let was = c.as-mut-slice.result.now in
-    let long : length was ≡ suppliers = c.as-mut-slice.ensures.len ∙ c.in-ok-flags.ensures.len in
-    let is = c.as-slice.ensures.value ∙ (with_items_is flags c.mark.new.flags (c.mark.auto.flags ∙ c.as-mut-slice.ensures.len) ∙ c.mark.ensures) in
-    let rows = rows_by_flags c.as-slice.result.now was ls long (λ s. ap (λ x. get_or x s false) (c.as-mut-slice.ensures.value ∙ blank) ∙ flags_none suppliers s) is in
-    IfOk-weaker c.put-both.result _ _ (λ _ h. h ∙ ap (λ x. string_bytes c.args.text.now ++ (first_heading ++ (period_table ls c.args.split.now ++ (second_heading ++ x)))) rows) c.put-both.ensures
+    let flags = c.in_ok-flags.flags in
+    let blank : vec_items flags ≡ replicate suppliers false = c.in_ok-flags.ensures.items_if_clones_equal (λ y e. e) in
+    let was = c.as_mut_slice.result.now in
+    let long : length was ≡ suppliers = c.as_mut_slice.ensures.len ∙ c.in_ok-flags.ensures.len in
+    let is = c.as_slice.ensures.value ∙ (with_items_is flags c.mark.new.flags (c.mark.auto.flags ∙ c.as_mut_slice.ensures.len) ∙ c.mark.ensures) in
+    let rows = rows_by_flags c.as_slice.result.now was ls long (λ s. ap (λ x. get_or x s false) (c.as_mut_slice.ensures.value ∙ blank) ∙ flags_none suppliers s) is in
+    IfOk-weaker c.put_both.result _ _ (λ _ h. h ∙ ap (λ x. string_bytes c.args.text.now ++ (first_heading ++ (period_table ls c.args.split.now ++ (second_heading ++ x)))) rows) c.put_both.ensures

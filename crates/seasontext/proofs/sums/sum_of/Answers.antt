@@ -12,12 +12,12 @@ loop-line-init c = sym (sum_none (picked c.args.pick))
 
 pub loop-line-preserved : goal.loop-line-preserved
 loop-line-preserved c =
-    let part = to_z-of_z w32 c.part.result (record { sfits = c.part.type-inv }) in
+    let part = to_z-of_z w32 c.part.result (record { sfits = c.part.type_inv }) in
     let was = c.loop-line.sum-is in
-    let more : c.in-ok-sum.sum ≡ c.loop-line.sum +ℤ c.part.result = cc c.in-ok-sum.ensures in
-    let fits : SFits w64 c.in-ok-sum.sum = search rules in
-    to_z-of_z w64 c.in-ok-sum.sum fits
-    ∙ sum_turn (picked c.args.pick) c.args.lines.now c.loop-line.line-index (line_of 0 0 0 0 0 (pos 0)) c.loop-line.sum c.part.result c.in-ok-sum.sum (omega arith) (sym was ∙ c.loop-line.invariant) c.part.ensures more
+    let more : c.in_ok-sum.sum ≡ c.loop-line.sum +ℤ c.part.result = cc c.in_ok-sum.ensures in
+    let fits : SFits w64 c.in_ok-sum.sum = search rules in
+    to_z-of_z w64 c.in_ok-sum.sum fits
+    ∙ sum_turn (picked c.args.pick) c.args.lines.now c.loop-line.line-index (line_of 0 0 0 0 0 (pos 0)) c.loop-line.sum c.part.result c.in_ok-sum.sum (omega arith) (sym was ∙ c.loop-line.invariant) c.part.ensures more
 
 pub returns : goal.returns
 returns c =

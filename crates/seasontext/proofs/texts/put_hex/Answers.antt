@@ -6,7 +6,7 @@ use Rattle.seasontext.proofs.texts.put_hex.Goals as goal
 
 pub loop-byte-preserved : goal.loop-byte-preserved
 loop-byte-preserved c =
-    text_more hex_byte c.args.bytes.now c.loop-byte.byte-index 0 (string_bytes c.args.text.now) (string_bytes c.loop-byte.text) (string_bytes c.put-byte.new.text) (omega arith) c.loop-byte.invariant c.in-ok-put-byte.ensures
+    text_more hex_byte c.args.bytes.now c.loop-byte.byte-index 0 (string_bytes c.args.text.now) (string_bytes c.loop-byte.text) (string_bytes c.put_byte.new.text) (omega arith) c.loop-byte.invariant c.in_ok-put_byte.ensures
 
 pub returns : goal.returns
 returns c =

@@ -6,6 +6,6 @@ use Rattle.seasontext.proofs.texts.put_issue.Goals as goal
 pub returns : goal.returns
 returns c =
     let ls = flat_map sent_text c.args.lines.now in
-    c.in-ok-put-lines.ensures
-    ∙ ap (λ t. t ++ ls) c.in-ok-write.ensures.bytes
+    c.in_ok-put_lines.ensures
+    ∙ ap (λ t. t ++ ls) c.in_ok-write.ensures.bytes
     ∙ simp append_assoc

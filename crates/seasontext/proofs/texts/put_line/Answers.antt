@@ -5,4 +5,4 @@ use Rattle.seasontext.proofs.texts.put_line.Goals as goal
 
 pub returns : goal.returns
 returns c =
-    IfOk-weaker c.put-numbers.result _ _ (λ _ h. h ∙ (ap (λ t. t ++ numbers_text c.args.line) c.in-ok-write.ensures.bytes ∙ simp append_assoc)) c.put-numbers.ensures
+    IfOk-weaker c.put_numbers.result _ _ (λ _ h. h ∙ (ap (λ t. t ++ numbers_text c.args.line) c.in_ok-write.ensures.bytes ∙ simp append_assoc)) c.put_numbers.ensures

@@ -8,7 +8,7 @@ use Rattle.seasontext.proofs.texts.put_lines.Goals as goal
 
 pub loop-line-preserved : goal.loop-line-preserved
 loop-line-preserved c =
-    text_more sent_text c.args.lines.now c.loop-line.line-index (line_of 0 0 0 0 0 (pos 0)) (string_bytes c.args.text.now) (string_bytes c.loop-line.text) (string_bytes c.put-line.new.text) (omega arith) c.loop-line.invariant c.in-ok-put-line.ensures
+    text_more sent_text c.args.lines.now c.loop-line.line-index (line_of 0 0 0 0 0 (pos 0)) (string_bytes c.args.text.now) (string_bytes c.loop-line.text) (string_bytes c.put_line.new.text) (omega arith) c.loop-line.invariant c.in_ok-put_line.ensures
 
 pub returns : goal.returns
 returns c =

@@ -4,9 +4,9 @@ use Rattle.seasontext.specs.Seen.{seen}
 use Rattle.seasontext.proofs.Desks.{close_none, close_some}
 use Rattle.seasontext.proofs.desk.Desk.close.Goals as goal
 
-pub returns-in-default : goal.returns-in-default
+pub returns-in_default : goal.returns-in_default
 unfolding seen
-returns-in-default c = close_none c.args.self.now.draft (seen c.args.self.now) c.in-default.is
+returns-in_default c = close_none c.args.self.now.draft (seen c.args.self.now) c.in_default.is
 
 pub returns : goal.returns
 unfolding seen

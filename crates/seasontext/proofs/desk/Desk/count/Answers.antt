@@ -7,5 +7,5 @@ pub returns : goal.returns
 unfolding seen
 returns c =
     let s = seen c.args.self.now in
-    let e = c.in-ok-number.ensures in
+    let e = c.in_ok-number.ensures in
     (e, ap (λ n. run_of s.terms s.quiet s.state s.split n s.sized s.draft s.text) e)

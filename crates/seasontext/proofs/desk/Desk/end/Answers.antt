@@ -6,4 +6,4 @@ use Rattle.seasontext.proofs.desk.Desk.end.Goals as goal
 pub returns : goal.returns
 unfolding seen
 returns c =
-    IfOk-weaker c.put-tables.result _ _ (λ _ h. end_is (seen c.args.self.now) (seen c.close.new.self) _ c.lines-from-lines.result.now c.as-slice.result.now c.lines-count.result c.as-slice-2.result.now c.in-ok-close.ensures c.as-slice.ensures.value c.lines-count.ensures c.lines-from-lines.ensures c.as-slice-2.ensures.value h) c.put-tables.ensures
+    IfOk-weaker c.put_tables.result _ _ (λ _ h. end_is (seen c.args.self.now) (seen c.close.new.self) _ c.lines_from-lines.result.now c.as_slice.result.now c.lines-count.result c.as_slice-2.result.now c.in_ok-close.ensures c.as_slice.ensures.value c.lines-count.ensures c.lines_from-lines.ensures c.as_slice-2.ensures.value h) c.put_tables.ensures

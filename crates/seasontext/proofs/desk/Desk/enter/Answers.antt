@@ -13,9 +13,9 @@ returns-in-Row c =
 pub returns-in-FaultyRow : goal.returns-in-FaultyRow
 unfolding seen
 returns-in-FaultyRow c =
-    IfOk-weaker c.faulty-row.result _ _ (λ _ h. h ∙ ap (λ e. entered c.args.number e (seen c.args.self.now)) (sym c.in-FaultyRow.is)) c.faulty-row.ensures
+    IfOk-weaker c.faulty_row.result _ _ (λ _ h. h ∙ ap (λ e. entered c.args.number e (seen c.args.self.now)) (sym c.in-FaultyRow.is)) c.faulty_row.ensures
 
-pub returns-in-default : goal.returns-in-default
-returns-in-default c =
-    let w = c.in-default in
+pub returns-in_default : goal.returns-in_default
+returns-in_default c =
+    let w = c.in_default in
     IfOk-weaker c.ask.result _ _ (λ _ h. h ∙ asked_is c.args.number (seen c.args.self.now) c.args.entry w.not-Blank w.not-Terms w.not-Tables w.not-Schedule w.not-Row w.not-FaultyRow w.not-Faulty) c.ask.ensures

@@ -10,12 +10,12 @@ use Rattle.seasontext.proofs.desk.Desk.open.Goals as goal
 pub returns : goal.returns
 unfolding seen
 returns c =
-    let slots = c.reading-slots-slots.result in
-    let many = c.issued-slots-issued.result in
+    let slots = c.reading_slots-slots.result in
+    let many = c.issued_slots-issued.result in
     let b = c.open.result in
-    let h : vec_items c.in-ok-vec.field-0 ≡ replicate c.args.holders no_holder = c.in-ok-vec.ensures.exact (λ y e. dated_is y _ e.0 e.1.0 e.1.1) in
-    let r : vec_items c.in-ok-vec-2.field-0 ≡ replicate slots no_dated_row = c.in-ok-vec-2.ensures.exact (λ y e. dated_is y _ e.0 e.1.0 e.1.1) in
-    let g : vec_items c.in-ok-vec-3.field-0 ≡ replicate slots no_reading = c.in-ok-vec-3.ensures.exact (λ y e. e) in
-    let i : vec_items c.in-ok-vec-4.field-0 ≡ replicate many no_volume = c.in-ok-vec-4.ensures.exact (λ y e. e) in
-    let j : vec_items c.in-ok-vec-5.field-0 ≡ replicate c.args.journal no_line = c.in-ok-vec-5.ensures.exact (λ y e. e) in
-    start_is c.args.holders c.args.journal slots many c.args.terms b.terms (kept b) c.args.quiet (vec_items c.in-ok-vec.field-0) (vec_items c.in-ok-vec-2.field-0) (vec_items c.in-ok-vec-3.field-0) (vec_items c.in-ok-vec-4.field-0) (vec_items c.in-ok-vec-5.field-0) (vec_items c.in-ok-no-splits.field-0) (string_bytes c.args.text) c.open.ensures.of.0 c.open.ensures.keeps c.reading-slots-slots.ensures c.issued-slots-issued.ensures h r g i j c.in-ok-no-splits.ensures
+    let h : vec_items c.in_ok-vec.field-0 ≡ replicate c.args.holders no_holder = c.in_ok-vec.ensures.items_if_clones_equal (λ y e. dated_is y _ e.0 e.1.0 e.1.1) in
+    let r : vec_items c.in_ok-vec-2.field-0 ≡ replicate slots no_dated_row = c.in_ok-vec-2.ensures.items_if_clones_equal (λ y e. dated_is y _ e.0 e.1.0 e.1.1) in
+    let g : vec_items c.in_ok-vec-3.field-0 ≡ replicate slots no_reading = c.in_ok-vec-3.ensures.items_if_clones_equal (λ y e. e) in
+    let i : vec_items c.in_ok-vec-4.field-0 ≡ replicate many no_volume = c.in_ok-vec-4.ensures.items_if_clones_equal (λ y e. e) in
+    let j : vec_items c.in_ok-vec-5.field-0 ≡ replicate c.args.journal no_line = c.in_ok-vec-5.ensures.items_if_clones_equal (λ y e. e) in
+    start_is c.args.holders c.args.journal slots many c.args.terms b.terms (kept b) c.args.quiet (vec_items c.in_ok-vec.field-0) (vec_items c.in_ok-vec-2.field-0) (vec_items c.in_ok-vec-3.field-0) (vec_items c.in_ok-vec-4.field-0) (vec_items c.in_ok-vec-5.field-0) (vec_items c.in_ok-no_splits.field-0) (string_bytes c.args.text) c.open.ensures.of.0 c.open.ensures.keeps c.reading_slots-slots.ensures c.issued_slots-issued.ensures h r g i j c.in_ok-no_splits.ensures

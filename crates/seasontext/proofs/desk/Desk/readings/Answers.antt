@@ -9,4 +9,4 @@ loop-index-init c = sym (read_none c.args.day c.args.quality c.args.figures.now 
 
 pub loop-index-preserved : goal.loop-index-preserved
 loop-index-preserved c =
-    read_turn c.args.day c.args.quality c.args.figures.now c.loop-index.index c.figure-at-kwh.result (seen c.args.self.now) (seen c.loop-index.self) (seen c.call.new.self) c.reading-call.result c.loop-index.invariant (c.figure-at-kwh.ensures ∙ ap (λ i. get_or c.args.figures.now i 0) c.from.ensures) c.reading-call.ensures c.in-ok-call.ensures
+    read_turn c.args.day c.args.quality c.args.figures.now c.loop-index.index c.figure_at-kwh.result (seen c.args.self.now) (seen c.loop-index.self) (seen c.call.new.self) c.reading_call.result c.loop-index.invariant (c.figure_at-kwh.ensures ∙ ap (λ i. get_or c.args.figures.now i 0) c.from.ensures) c.reading_call.ensures c.in_ok-call.ensures

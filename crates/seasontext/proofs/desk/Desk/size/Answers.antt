@@ -8,7 +8,7 @@ use Rattle.seasontext.proofs.desk.Desk.size.Goals as goal
 pub returns : goal.returns
 unfolding seen tables_of
 returns c =
-    let h : vec_items c.in-ok-self.field-0 ≡ replicate c.args.holders no_holder = c.in-ok-self.ensures.items-if-clones-equal (λ y e. dated_is y _ e.0 e.1.0 e.1.1) in
-    let r : vec_items c.in-ok-self-2.field-0 ≡ replicate c.args.rows no_dated_row = c.in-ok-self-2.ensures.items-if-clones-equal (λ y e. dated_is y _ e.0 e.1.0 e.1.1) in
-    let j : vec_items c.in-ok-self-3.field-0 ≡ replicate c.args.journal no_line = c.in-ok-self-3.ensures.items-if-clones-equal (λ y e. e) in
+    let h : vec_items c.in_ok-self.field-0 ≡ replicate c.args.holders no_holder = c.in_ok-self.ensures.items_if_clones_equal (λ y e. dated_is y _ e.0 e.1.0 e.1.1) in
+    let r : vec_items c.in_ok-self-2.field-0 ≡ replicate c.args.rows no_dated_row = c.in_ok-self-2.ensures.items_if_clones_equal (λ y e. dated_is y _ e.0 e.1.0 e.1.1) in
+    let j : vec_items c.in_ok-self-3.field-0 ≡ replicate c.args.journal no_line = c.in_ok-self-3.ensures.items_if_clones_equal (λ y e. e) in
     cc

@@ -7,4 +7,4 @@ use Rattle.seasontext.proofs.desk.Desk.slip.Goals as goal
 pub returns : goal.returns
 unfolding seen slipped
 returns c =
-    IfOk-weaker c.put-slip.result _ _ (λ _ h. said (seen c.args.self.now) _ _ h) c.put-slip.ensures
+    IfOk-weaker c.put_slip.result _ _ (λ _ h. said (seen c.args.self.now) _ _ h) c.put_slip.ensures

@@ -14,12 +14,12 @@ unfolding seen came_of stepped
 returns c =
     let d = c.args.self.now in
     let o = c.apply.new in
-    let h = with_items_is d.holders o.holders (c.apply.auto.holders ∙ c.as-mut-slice.ensures.len) in
-    let r = with_items_is d.rows o.rows (c.apply.auto.rows ∙ c.as-mut-slice-2.ensures.len) in
-    let g = with_items_is d.readings o.readings (c.apply.auto.readings ∙ c.as-mut-slice-3.ensures.len) in
-    let i = with_items_is d.issued o.issued (c.apply.auto.issued ∙ c.as-mut-slice-4.ensures.len) in
-    let j = with_items_is d.journal o.journal (c.apply.auto.journal ∙ c.as-mut-slice-5.ensures.len) in
-    let was = state_is (kept d.book) c.as-mut-slice.ensures.value c.as-mut-slice-2.ensures.value c.as-mut-slice-3.ensures.value c.as-mut-slice-4.ensures.value c.as-mut-slice-5.ensures.value in
+    let h = with_items_is d.holders o.holders (c.apply.auto.holders ∙ c.as_mut_slice.ensures.len) in
+    let r = with_items_is d.rows o.rows (c.apply.auto.rows ∙ c.as_mut_slice-2.ensures.len) in
+    let g = with_items_is d.readings o.readings (c.apply.auto.readings ∙ c.as_mut_slice-3.ensures.len) in
+    let i = with_items_is d.issued o.issued (c.apply.auto.issued ∙ c.as_mut_slice-4.ensures.len) in
+    let j = with_items_is d.journal o.journal (c.apply.auto.journal ∙ c.as_mut_slice-5.ensures.len) in
+    let was = state_is (kept d.book) c.as_mut_slice.ensures.value c.as_mut_slice-2.ensures.value c.as_mut_slice-3.ensures.value c.as_mut_slice-4.ensures.value c.as_mut_slice-5.ensures.value in
     let is = state_is (kept o.book) h r g i j in
     record {
       answer = c.apply.ensures.answer ∙ ap (λ st. outcome d.book.terms house st c.args.call) was;

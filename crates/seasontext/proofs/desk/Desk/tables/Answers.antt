@@ -4,12 +4,12 @@ use Rattle.seasontext.specs.Seen.{seen}
 use Rattle.seasontext.proofs.Desks.{tables_first, tables_late}
 use Rattle.seasontext.proofs.desk.Desk.tables.Goals as goal
 
-pub returns-then-is-fresh : goal.returns-then-is-fresh
+pub returns-then-is_fresh : goal.returns-then-is_fresh
 unfolding seen
-returns-then-is-fresh c =
-    IfOk-weaker c.size.result _ _ (λ _ h. h ∙ tables_first c.args.number c.args.holders c.args.rows c.args.journal (seen c.args.self.now) (sym c.is-fresh.ensures ∙ c.if-is-fresh.true)) c.size.ensures
+returns-then-is_fresh c =
+    IfOk-weaker c.size.result _ _ (λ _ h. h ∙ tables_first c.args.number c.args.holders c.args.rows c.args.journal (seen c.args.self.now) (sym c.is_fresh.ensures ∙ c.if-is_fresh.true)) c.size.ensures
 
-pub returns-else-is-fresh : goal.returns-else-is-fresh
+pub returns-else-is_fresh : goal.returns-else-is_fresh
 unfolding seen
-returns-else-is-fresh c =
-    IfOk-weaker c.slip.result _ _ (λ _ h. h ∙ tables_late c.args.number c.args.holders c.args.rows c.args.journal (seen c.args.self.now) (sym c.is-fresh.ensures ∙ c.if-is-fresh.false)) c.slip.ensures
+returns-else-is_fresh c =
+    IfOk-weaker c.slip.result _ _ (λ _ h. h ∙ tables_late c.args.number c.args.holders c.args.rows c.args.journal (seen c.args.self.now) (sym c.is_fresh.ensures ∙ c.if-is_fresh.false)) c.slip.ensures

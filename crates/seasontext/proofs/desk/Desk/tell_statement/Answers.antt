@@ -5,13 +5,13 @@ use Rattle.seasontext.specs.Texts.{buffer_text}
 use Rattle.seasontext.proofs.Desks.{silent, printed, said}
 use Rattle.seasontext.proofs.desk.Desk.tell_statement.Goals as goal
 
-pub returns-then-is-silent : goal.returns-then-is-silent
+pub returns-then-is_silent : goal.returns-then-is_silent
 unfolding seen
-returns-then-is-silent c =
+returns-then-is_silent c =
     let s = seen c.args.self.now in
     let s' = seen c.count.new.self in
     let a = c.args.answer in
-    silent (is_ok a) (buffer_text (s.calls + 1) c.args.buffer.now a) s s' c.is-silent.result c.in-ok-number.ensures.1 (c.is-silent.ensures ∙ ap (λ b. s'.quiet && b) c.is-ok.ensures.value) c.if-is-silent.true
+    silent (is_ok a) (buffer_text (s.calls + 1) c.args.buffer.now a) s s' c.is_silent.result c.in_ok-number.ensures.1 (c.is_silent.ensures ∙ ap (λ b. s'.quiet && b) c.is_ok.ensures.value) c.if-is_silent.true
 
 pub returns : goal.returns
 unfolding seen
@@ -20,5 +20,5 @@ returns c =
     let s' = seen c.count.new.self in
     let a = c.args.answer in
     let bs = c.args.buffer.now in
-    let count = c.in-ok-number.ensures in
-    IfOk-weaker c.put-statement.result _ _ (λ _ h. printed (is_ok a) (buffer_text (s.calls + 1) bs a) s s' c.is-silent.result count.1 (c.is-silent.ensures ∙ ap (λ b. s'.quiet && b) c.is-ok.ensures.value) _ c.if-is-silent.false (said s' _ _ (h ∙ ap (λ n. s'.text ++ buffer_text n bs a) count.0))) c.put-statement.ensures
+    let count = c.in_ok-number.ensures in
+    IfOk-weaker c.put_statement.result _ _ (λ _ h. printed (is_ok a) (buffer_text (s.calls + 1) bs a) s s' c.is_silent.result count.1 (c.is_silent.ensures ∙ ap (λ b. s'.quiet && b) c.is_ok.ensures.value) _ c.if-is_silent.false (said s' _ _ (h ∙ ap (λ n. s'.text ++ buffer_text n bs a) count.0))) c.put_statement.ensures

@@ -7,14 +7,14 @@ use Rattle.seasontext.proofs.Desks.{silent, printed, said}
 use Rattle.seasontext.proofs.Statements.{volume_is}
 use Rattle.seasontext.proofs.desk.Desk.volume.Goals as goal
 
-pub returns-then-is-silent : goal.returns-then-is-silent
+pub returns-then-is_silent : goal.returns-then-is_silent
 unfolding seen
-returns-then-is-silent c =
+returns-then-is_silent c =
     let s = seen c.args.self.now in
     let s' = seen c.count.new.self in
     let a = c.volume-answer.result in
-    let is = c.volume-answer.ensures ∙ ap (λ t. volume_answer s.terms t c.args.day c.args.period c.args.place) c.as-slice.ensures.value in
-    silent (is_ok a) (volume_text (s.calls + 1) a) s s' c.is-silent.result c.in-ok-number.ensures.1 (c.is-silent.ensures ∙ ap (λ b. s'.quiet && b) c.is-ok.ensures.value) c.if-is-silent.true
+    let is = c.volume-answer.ensures ∙ ap (λ t. volume_answer s.terms t c.args.day c.args.period c.args.place) c.as_slice.ensures.value in
+    silent (is_ok a) (volume_text (s.calls + 1) a) s s' c.is_silent.result c.in_ok-number.ensures.1 (c.is_silent.ensures ∙ ap (λ b. s'.quiet && b) c.is_ok.ensures.value) c.if-is_silent.true
     ∙ volume_is c.args.day c.args.period c.args.place s a is
 
 pub returns : goal.returns
@@ -23,6 +23,6 @@ returns c =
     let s = seen c.args.self.now in
     let s' = seen c.count.new.self in
     let a = c.volume-answer.result in
-    let count = c.in-ok-number.ensures in
-    let is = c.volume-answer.ensures ∙ ap (λ t. volume_answer s.terms t c.args.day c.args.period c.args.place) c.as-slice.ensures.value in
-    IfOk-weaker c.put-volume.result _ _ (λ _ h. printed (is_ok a) (volume_text (s.calls + 1) a) s s' c.is-silent.result count.1 (c.is-silent.ensures ∙ ap (λ b. s'.quiet && b) c.is-ok.ensures.value) _ c.if-is-silent.false (said s' _ _ (h ∙ ap (λ n. s'.text ++ volume_text n a) count.0)) ∙ volume_is c.args.day c.args.period c.args.place s a is) c.put-volume.ensures
+    let count = c.in_ok-number.ensures in
+    let is = c.volume-answer.ensures ∙ ap (λ t. volume_answer s.terms t c.args.day c.args.period c.args.place) c.as_slice.ensures.value in
+    IfOk-weaker c.put_volume.result _ _ (λ _ h. printed (is_ok a) (volume_text (s.calls + 1) a) s s' c.is_silent.result count.1 (c.is_silent.ensures ∙ ap (λ b. s'.quiet && b) c.is_ok.ensures.value) _ c.if-is_silent.false (said s' _ _ (h ∙ ap (λ n. s'.text ++ volume_text n a) count.0)) ∙ volume_is c.args.day c.args.period c.args.place s a is) c.put_volume.ensures
