@@ -51,7 +51,7 @@ mod tests {
     fn a_percentage(rt: HostRuntime) -> Result<(), Fail> {
         let input = day(&rt, 1_380, PERCENTAGE, 30);
         let text = split_day(rt.alloc(), &input)?;
-        assert_eq!(rt; text.as_slice(), b"13 0 101 21\n13 1 102 9\n");
+        assert_eq!(rt; text.as_slice(), b"13 0 101 21\n13 1 102 9\n".as_slice());
         Ok(())
     }
 
@@ -60,7 +60,7 @@ mod tests {
     fn a_fixed_block(rt: HostRuntime) -> Result<(), Fail> {
         let input = day(&rt, 1_380, FIXED, 20);
         let text = split_day(rt.alloc(), &input)?;
-        assert_eq!(rt; text.as_slice(), b"13 0 101 30\n13 1 102 -10\n");
+        assert_eq!(rt; text.as_slice(), b"13 0 101 30\n13 1 102 -10\n".as_slice());
         Ok(())
     }
 
@@ -68,7 +68,7 @@ mod tests {
     fn a_late_schedule(rt: HostRuntime) -> Result<(), Fail> {
         let input = day(&rt, 1_381, PERCENTAGE, 30);
         let text = split_day(rt.alloc(), &input)?;
-        assert_eq!(rt; text.as_slice(), b"refused 10 1380\n");
+        assert_eq!(rt; text.as_slice(), b"refused 10 1380\n".as_slice());
         Ok(())
     }
 
@@ -77,9 +77,9 @@ mod tests {
         let mut input = day(&rt, 1_380, PERCENTAGE, 30);
         input[1_648] = 0;
         let text = split_day(rt.alloc(), &input)?;
-        assert_eq!(rt; text.as_slice(), b"refused 2 0\n");
+        assert_eq!(rt; text.as_slice(), b"refused 2 0\n".as_slice());
         let cut = split_day(rt.alloc(), b"SSM")?;
-        assert_eq!(rt; cut.as_slice(), b"refused 1 3\n");
+        assert_eq!(rt; cut.as_slice(), b"refused 1 3\n".as_slice());
         Ok(())
     }
 
@@ -97,7 +97,7 @@ mod tests {
         let mut input = day(&rt, 1_380, PERCENTAGE, 0);
         input[1_648 + 8 + 12 * 8 + 2] = 12;
         let text = split_day(rt.alloc(), &input)?;
-        assert_eq!(rt; text.as_slice(), b"refused 18 13\n");
+        assert_eq!(rt; text.as_slice(), b"refused 18 13\n".as_slice());
         Ok(())
     }
 }

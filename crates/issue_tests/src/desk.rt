@@ -132,7 +132,9 @@ impl Desk {
     fn read_day(&mut self, day: u16, kwh: u32) -> Result<(), Fail> {
         for period in 1..49u8 {
             let metered = if period == 13 { kwh } else { 0 };
-            assert_eq!(self.read(day, period, 1, metered), None);
+            if self.read(day, period, 1, metered).is_some() {
+                return Err(Fail::new("a reading was refused"));
+            }
         }
         Ok(())
     }
@@ -170,8 +172,10 @@ impl Desk {
             issue,
         );
         if answer.is_some() {
-            assert!(same(&self.issued, &issued));
-            assert!(same(&self.journal, &journal));
+            let kept = same(&self.issued, &issued) && same(&self.journal, &journal);
+            if !kept {
+                return Err(Fail::new("a refused issue wrote something"));
+            }
         }
         Ok(answer)
     }

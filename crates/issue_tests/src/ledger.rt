@@ -252,7 +252,9 @@ impl Ledger {
     pub(crate) fn compare(&self, sums: &[i64; SUMS]) -> Result<(), Fail> {
         for i in 0..HALF_HOURS {
             let total = self.splits[i].compare(sums, i)?;
-            assert_eq!(total, i64::from(self.splits[i].kwh));
+            if total != i64::from(self.splits[i].kwh) {
+                return Err(Fail::new("a half hour's lines do not add up to its kWh"));
+            }
         }
         Ok(())
     }
@@ -283,9 +285,12 @@ impl Split {
             let slot = half_hour
                 .saturating_mul(PLACES * SUPPLIERS)
                 .saturating_add(cell);
-            assert!(slot < SUMS);
-            assert_eq!(sums[slot], self.expected(place, cell % SUPPLIERS));
-            assert!(sums[slot] >= 0 || self.is_balance(place));
+            if slot >= SUMS || sums[slot] != self.expected(place, cell % SUPPLIERS) {
+                return Err(Fail::new("a supplier's lines do not add up to its share"));
+            }
+            if sums[slot] < 0 && !self.is_balance(place) {
+                return Err(Fail::new("a sum below zero is not at the balance place"));
+            }
             total = i64::wrapping_add(total, sums[slot]);
         }
         Ok(total)
