@@ -1,17 +1,11 @@
 -- The gate's minute itself is still in time, and any later one is not.
-use Rattle.std.proofs.Common.{◌≡◌, ℕ, ◌<◌, ◌≤◌, Bool, true, false, eqb, leb, List, length, Some, None, Ok, Err, Option, Result, refl, ap, ◌∙◌, arith}
+use Rattle.std.proofs.Common.{◌≡◌, ℕ, ◌<◌, Bool, true, false, eqb, leb, length, Ok, Err, Option, Result, refl, ap, ◌∙◌, arith}
 use Rattle.std.proofs.lemmas.Bool.{cond-true, cond-false, le-leb, lt-leb, eq-eqb}
 use Rattle.domain.specs.Limits.{periods}
 use Rattle.domain.specs.Slots.{gate}
 use Rattle.domain.specs.Checks.{unless, and_then, is_day, is_supplier}
 use Rattle.domain.specs.declared.Fault.{Fault}
-use Rattle.domain.specs.declared.Fault.TheVariants.{AfterGate}
-use Rattle.domain.specs.declared.AllocationRow.{AllocationRow}
-use Rattle.domain.specs.declared.terms.Terms.{Terms}
-use Rattle.history.specs.declared.Dated.{Dated}
-use Rattle.rules.specs.Meaning.{Meaning}
-use Rattle.book.specs.Kept.{Kept}
-use Rattle.book.specs.Sharing.{primary_on, end_answer, rows_allowed, schedule_admit, not_ended, before_end}
+use Rattle.book.specs.Sharing.{not_ended, before_end}
 use Rattle.book.specs.Gates.{GateKept}
 
 -- a check that holds, and one that does not

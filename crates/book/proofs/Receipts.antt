@@ -1,5 +1,5 @@
 -- What a receipt, or its absence, says of the schedule.
-use Rattle.std.proofs.Common.{◌≡◌, ℕ, Ok, Err, Result, refl, ap, ◌∙◌, arith}
+use Rattle.std.proofs.Common.{◌≡◌, ℕ, Ok, Err, Result, refl, ap, arith}
 use Rattle.domain.specs.declared.Fault.{Fault}
 use Rattle.files.specs.Contents.{notice_of}
 use Rattle.book.specs.Sharing.{receipt_for}

@@ -1,5 +1,5 @@
 -- What a book keeps beside its terms and its rule.
-use Rattle.std.specs.Prelude.{ℕ, Bool, false, cond, List, replicate, Some, None, Option, slice_index_or}
+use Rattle.std.specs.Prelude.{ℕ, Bool, false, List, replicate, None, Option, slice_index_or}
 use Rattle.domain.specs.Limits.{most_days}
 use Rattle.book.specs.declared.Book.{Book}
 

@@ -1,5 +1,5 @@
 -- The calls on the table of readings, and blanking.
-use Rattle.std.specs.Prelude.{ℕ, Bool, not, ◌&&◌, List, Ok, Result, ◌==◌, nat_le, slice_set}
+use Rattle.std.specs.Prelude.{ℕ, not, ◌&&◌, List, Ok, Result, ◌==◌, nat_le, slice_set}
 use Rattle.domain.specs.Limits.{most_kwh}
 use Rattle.domain.specs.Slots.{reading_slot}
 use Rattle.domain.specs.declared.Table.TheVariants.{Readings, Issued}

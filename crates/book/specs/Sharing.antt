@@ -1,5 +1,5 @@
 -- The calls that say who shares the meter, how, and until when.
-use Rattle.std.specs.Prelude.{ℕ, ◌+◌, Bool, false, cond, not, List, [], ◌∷◌, length, take, Some, None, Ok, Err, Option, Result, ◌==◌, nat_le, nat_lt}
+use Rattle.std.specs.Prelude.{ℕ, ◌+◌, Bool, false, not, List, [], ◌∷◌, length, take, Some, None, Ok, Err, Option, Result, ◌==◌, nat_le, nat_lt}
 use Rattle.domain.specs.Limits.{periods}
 use Rattle.domain.specs.Slots.{gate}
 use Rattle.domain.specs.Checks.{unless, and_then, is_day, is_place, is_supplier}

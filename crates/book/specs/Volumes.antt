@@ -1,5 +1,5 @@
 -- The question after a volume.
-use Rattle.std.specs.Prelude.{ℕ, suc, Bool, cond, not, List, ℤ, pos, negsuc, Some, None, Ok, Option, Result, ◌==◌}
+use Rattle.std.specs.Prelude.{ℕ, suc, cond, not, List, ℤ, pos, negsuc, Some, None, Ok, Option, Result, ◌==◌}
 use Rattle.domain.specs.declared.Table.TheVariants.{Issued}
 use Rattle.domain.specs.declared.Fault.{Fault}
 use Rattle.domain.specs.declared.Fault.TheVariants.{ArgumentOutsideLimits, AnotherSize, Spoiled}

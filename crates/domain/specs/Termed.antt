@@ -1,5 +1,5 @@
 -- Which terms are refused.
-use Rattle.std.specs.Prelude.{ℕ, Bool, cond, not, ◌&&◌, Some, None, Option, nat_le}
+use Rattle.std.specs.Prelude.{ℕ, cond, not, ◌&&◌, Some, None, Option, nat_le}
 use Rattle.domain.specs.Limits.{fewest_places, most_places, most_days, most_capacity}
 use Rattle.domain.specs.declared.Term.TheVariants.{Places, Days, Capacity}
 use Rattle.domain.specs.declared.Fault.{Fault}

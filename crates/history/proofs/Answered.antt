@@ -4,7 +4,6 @@ use Rattle.std.specs.Option.{option_map}
 use Rattle.std.proofs.lemmas.Option.{MatchOption-at_some, MatchOption-at_none}
 use Rattle.std.proofs.lemmas.Bool.{cases_lt}
 use Rattle.std.proofs.lemmas.Bool.Decides.{nat_tests}
-use Rattle.history.specs.Latest.{latest}
 use Rattle.history.specs.Entries.{is_on, found, in_force}
 use Rattle.history.specs.Questions.{Stands, NoneDue, InForce, NoneOn, FirstOn}
 use Rattle.history.specs.declared.Dated.{Dated}

@@ -1,4 +1,4 @@
-use Rattle.std.proofs.Common.{◌≡◌, ℕ, zero, suc, ◌-◌, min, Bool, true, false, cond, ◌&&◌, get_or, ℤ, pos, is_some, Some, None, Option, refl, ap, ◌∙◌, sub-one, arith}
+use Rattle.std.proofs.Common.{◌≡◌, ℕ, zero, suc, ◌-◌, min, Bool, true, false, cond, get_or, ℤ, pos, is_some, Some, None, Option, refl, ap, ◌∙◌, sub-one, arith}
 use Rattle.rules.specs.Meaning.{Agreement, Meaning, in_range, answered}
 use Rattle.rules.specs.Pairs.{first_of}
 use Rattle.rules.specs.First.{opens, after_first, first_block}

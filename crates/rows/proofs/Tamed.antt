@@ -1,5 +1,5 @@
 -- The laws keep a rule's answers within what a meter can count.
-use Rattle.std.proofs.Common.{◌≡◌, ℕ, ◌<◌, ◌≤◌, true, ◌&&◌, List, length, get_or, ℤ, pos, negsuc, ⊎_elim, arith, w32, w64, SFits, to_z, of_z}
+use Rattle.std.proofs.Common.{◌≡◌, ℕ, ◌<◌, ◌≤◌, ◌&&◌, List, length, get_or, ℤ, pos, negsuc, ⊎_elim, arith, w32, w64, SFits, to_z, of_z}
 use Rattle.std.proofs.lemmas.List.{get_or_past}
 use Rattle.std.proofs.lemmas.Int.{ints}
 use Rattle.std.proofs.lemmas.Bool.{cases_lt, cond_both, and_parts}

@@ -1,5 +1,5 @@
 -- A first block: place 0 has its nomination, as far as the energy goes, and a rule below splits the rest.
-use Rattle.std.specs.Prelude.{ℕ, ◌-◌, Bool, ◌&&◌, ◌∷◌, length, drop, pos, nat_le}
+use Rattle.std.specs.Prelude.{◌-◌, Bool, ◌&&◌, ◌∷◌, length, drop, pos, nat_le}
 use Rattle.domain.specs.Limits.{most_kwh}
 use Rattle.rules.specs.Meaning.{Agreement, Meaning}
 use Rattle.rules.specs.Pairs.{first_of, taken}

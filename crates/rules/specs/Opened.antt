@@ -1,11 +1,11 @@
 -- A first block on a rule that keeps the laws keeps them too.
-use Rattle.std.specs.Prelude.{◌≡◌, ℕ, zero, suc, ◌+◌, ◌-◌, ◌<◌, ◌≤◌, true, length, pos, slice_index_or}
+use Rattle.std.specs.Prelude.{◌≡◌, ℕ, zero, suc, ◌-◌, ◌<◌, ◌≤◌, true, length, pos, slice_index_or}
 use Rattle.std.proofs.Common.{arith, length-drop}
 use Rattle.std.proofs.lemmas.Bool.Decides.{nat_tests}
 use Rattle.std.proofs.lemmas.Int.{ints}
 use Rattle.rules.specs.Meaning.{Agreement, Meaning, Laws, Split, Fair, in_range}
 use Rattle.rules.specs.Pairs.{taken}
-use Rattle.rules.specs.First.{opens, after_first, first_block}
+use Rattle.rules.specs.First.{after_first, first_block}
 use Rattle.rules.specs.Shares.{fair_part}
 
 module _ (m : Meaning) (laws : Laws m) (t : Agreement) (p e : ℕ) (lawful : (first_block m).lawful t ≡ true) (range : in_range p e ≡ true) where

@@ -1,9 +1,9 @@
 -- A first place that has no more than the energy, and a second that has the rest, keep the laws.
-use Rattle.std.specs.Prelude.{◌≡◌, ℕ, zero, suc, ◌+◌, ◌*◌, ◌<◌, ◌≤◌, true, length, pos, slice_index_or}
+use Rattle.std.specs.Prelude.{◌≡◌, ℕ, zero, suc, ◌*◌, ◌<◌, ◌≤◌, true, pos, slice_index_or}
 use Rattle.std.proofs.Common.{ap, mul-le-mul_right, arith}
 use Rattle.std.proofs.lemmas.Bool.Decides.{nat_tests}
 use Rattle.rules.specs.Meaning.{Agreement, Laws, Fair}
-use Rattle.rules.specs.Pairs.{is_pair, pairs, whole, nearest, first_of, percent_of, percentage, taken, capped_block}
+use Rattle.rules.specs.Pairs.{is_pair, pairs, whole, nearest, first_of, percent_of, percentage}
 use Rattle.rules.specs.Rounding.{Nearest}
 use Rattle.rules.specs.Shares.{fair_part}
 

@@ -1,9 +1,9 @@
 -- The book and its tables agree with the plain book, and each call keeps it so.
-use Rattle.std.proofs.Common.{◌≡◌, ℕ, suc, ◌+◌, ◌-◌, ◌*◌, ◌<◌, ◌≤◌, Bool, true, false, cond, not, ◌&&◌, eqb, ltb, leb, ◌⊎◌, List, [], ◌∷◌, ◌++◌, length, get_or, take, drop, set, is_ok, Some, None, Ok, Err, Option, Result, unwrap_or, sym, refl, ap, ◌∙◌, subst, inl, inr, ⊎_elim, arith, length-append, length-drop, length-set, take_all, Bor}
+use Rattle.std.proofs.Common.{◌≡◌, ℕ, ◌-◌, ◌<◌, ◌≤◌, Bool, true, false, cond, ◌&&◌, eqb, ltb, leb, List, [], length, get_or, take, set, is_ok, Some, None, Ok, Err, Option, Result, sym, refl, ap, ◌∙◌, subst, ⊎_elim, arith, length-append, length-drop, length-set, take_all, Bor}
 use Rattle.std.specs.List.{slice_get}
 use Rattle.std.proofs.lemmas.List.{get_or-set_same, get_or-set_other}
 use Rattle.std.proofs.lemmas.Option.{slice_get-get_or}
-use Rattle.std.proofs.lemmas.Bool.{cases_eq, cond-true, cond-false, eq-eqb, ne_eqb, eqb-true, leb-true, ltb-false, ltb-true, cases_Bool, cond_both, and_parts, and_from, both_ways}
+use Rattle.std.proofs.lemmas.Bool.{cases_eq, cond-true, cond-false, eq-eqb, ne_eqb, eqb-true, ltb-false, cases_Bool, cond_both, and_parts, and_from, both_ways}
 use Rattle.std.proofs.lemmas.Bool.Decides.{nat_tests}
 use Rattle.domain.specs.Limits.{periods}
 use Rattle.domain.specs.Slots.{reading_slot, reading_slots, issued_slots}
@@ -18,17 +18,15 @@ use Rattle.domain.specs.declared.terms.Terms.{Terms}
 use Rattle.rules.specs.Meaning.{Meaning}
 use Rattle.history.specs.declared.Dated.{Dated}
 use Rattle.history.specs.Latest.{or_else}
-use Rattle.history.specs.Entries.{is_on, keyed}
-use Rattle.history.specs.Puts.{put_one, put_all, put_day, on_day, holding, room_for, holding_if}
+use Rattle.history.specs.Entries.{keyed}
+use Rattle.history.specs.Puts.{put_one, put_day, holding, room_for, holding_if}
 use Rattle.history.proofs.Placing.{take-holding}
 use Rattle.history.proofs.Putting.{keyed_put, keyed_day}
-use Rattle.book.specs.Kept.{Kept}
 use Rattle.book.specs.Sharing as sharing
 use Rattle.book.specs.Readings.{with_reading}
-use Rattle.season.specs.declared.Call.{Call}
 use Rattle.season.specs.declared.Call.TheVariants as call
-use Rattle.season.specs.Plain.{Plain, at, at_both, row_of, slot_of, after, plain_step}
-use Rattle.season.specs.Steps.{State, registered, scheduled, read, ended, step, accepts}
+use Rattle.season.specs.Plain.{Plain, at, at_both, row_of, slot_of, plain_step}
+use Rattle.season.specs.Steps.{State, registered, scheduled, read, ended}
 
 -- a slot of readings says what was read: nothing where it is empty
 abbrev pub ReadAs : Reading → Option ℕ → Type 0

@@ -1,13 +1,13 @@
 -- Each call keeps tables and plain book in agreement, and so does every list of calls.
-use Rattle.std.proofs.Common.{◌≡◌, ℕ, ◌+◌, ◌<◌, ◌≤◌, Bool, true, false, cond, eqb, leb, List, [], ◌∷◌, ◌++◌, length, take, is_ok, Some, None, Ok, Err, Option, Result, sym, refl, ap, ◌∙◌, ⊎_elim, arith}
-use Rattle.std.proofs.lemmas.Bool.{cases_eq, eq-eqb, ne_eqb, false≢true, cond-true}
+use Rattle.std.proofs.Common.{◌≡◌, ℕ, ◌+◌, ◌<◌, ◌≤◌, Bool, true, cond, List, [], ◌∷◌, ◌++◌, length, take, is_ok, Some, Ok, Err, Option, Result, sym, refl, ap, ◌∙◌, ⊎_elim, arith}
+use Rattle.std.proofs.lemmas.Bool.{cases_eq, eq-eqb, ne_eqb, false≢true}
 use Rattle.std.proofs.lemmas.Bool.Decides.{nat_tests}
 use Rattle.domain.specs.Limits.{periods}
 use Rattle.domain.specs.Checks.{settled, is_day, is_period, slot_at}
 use Rattle.domain.specs.declared.Line.{Line}
 use Rattle.domain.specs.declared.Fault.{Fault}
 use Rattle.domain.specs.declared.terms.Terms.{Terms}
-use Rattle.rules.specs.Meaning.{Meaning, Laws}
+use Rattle.rules.specs.Meaning.{Meaning}
 use Rattle.domain.specs.declared.Slot.{Slot}
 use Rattle.issuing.specs.Granted as Grants
 use Rattle.issuing.specs.Posted.{posted}

@@ -1,22 +1,19 @@
 -- An accepted issue writes into the tables what the plain book writes down.
-use Rattle.std.proofs.Common.{◌≡◌, ℕ, zero, suc, ◌+◌, ◌-◌, ◌<◌, ◌≤◌, Bool, true, false, cond, not, ◌&&◌, ◌||◌, eqb, leb, List, [], ◌∷◌, ◌++◌, length, get_or, take, drop, ℤ, pos, is_some, Some, None, Option, unwrap_or, sym, refl, ap, ◌∙◌, subst, ⊎_elim, add-one, arith}
-use Rattle.std.specs.List.{slice_get}
+use Rattle.std.proofs.Common.{◌≡◌, ℕ, suc, ◌-◌, ◌<◌, ◌≤◌, Bool, true, false, cond, not, ◌&&◌, ◌||◌, eqb, leb, [], length, get_or, take, drop, ℤ, pos, is_some, Some, None, Option, unwrap_or, sym, refl, ap, ◌∙◌, ⊎_elim, add-one, arith}
 use Rattle.std.proofs.lemmas.Option.{slice_get-get_or}
 use Rattle.std.proofs.lemmas.Bool.{cond-true, le-leb, and_from, and_parts, not-false, both_ways, eq-eqb, lt-ltb, or_left, or_right, cases_Bool}
 use Rattle.std.proofs.lemmas.Bool.Decides.{nat_tests}
 use Rattle.domain.specs.Limits.{periods, most_kwh}
-use Rattle.domain.specs.Checks.{is_day, is_period, reading_at, slot_at, spoiled_reading}
-use Rattle.domain.specs.Lines.{line_of, slot_lines, gathered}
+use Rattle.domain.specs.Checks.{is_day, is_period, reading_at, slot_at}
+use Rattle.domain.specs.Lines.{line_of, slot_lines}
 use Rattle.domain.specs.declared.AllocationRow.{AllocationRow}
 use Rattle.domain.specs.declared.Reading.{Reading}
 use Rattle.domain.specs.declared.Slot.{Slot}
-use Rattle.domain.specs.declared.Line.{Line}
 use Rattle.domain.specs.declared.terms.Terms.{Terms}
-use Rattle.rules.specs.Meaning.{Meaning, answered, in_range}
+use Rattle.rules.specs.Meaning.{Meaning, in_range}
 use Rattle.rows.specs.Rows.{agreement, allowed, share_of, zeros}
-use Rattle.history.specs.declared.Dated.{Dated}
 use Rattle.history.specs.Latest.{latest}
-use Rattle.history.specs.Entries.{in_force, entry_at, keyed}
+use Rattle.history.specs.Entries.{in_force, entry_at}
 use Rattle.history.proofs.Keyed.{in_force_agrees}
 use Rattle.history.proofs.Latests.{latest_through}
 use Rattle.issuing.specs.declared.Standing.{Standing}
@@ -27,7 +24,7 @@ use Rattle.issuing.specs.Issue.{supplier_on, row_on, next_slot, day_lines, lacks
 use Rattle.issuing.specs.Granted.{Granted}
 use Rattle.issuing.proofs.Gathered.{gathered_same}
 use Rattle.book.specs.Issues.{standing_of}
-use Rattle.season.specs.Plain.{Plain, Written, has_ended, holds, row_of, in_use, shares_of, writes, slot_of, issue_lines}
+use Rattle.season.specs.Plain.{Plain, has_ended, holds, row_of, in_use, shares_of, writes, slot_of, issue_lines}
 use Rattle.season.specs.Granted.{Ready}
 use Rattle.season.specs.Steps.{State}
 use Rattle.season.proofs.Agrees.{Agrees, ReadAs, slot_below}

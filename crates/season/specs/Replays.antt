@@ -1,5 +1,5 @@
 -- What a replay of calls comes to.
-use Rattle.std.specs.Prelude.{◌≡◌, ℕ, min, List, ◌++◌, length, take, drop}
+use Rattle.std.specs.Prelude.{◌≡◌, min, List, ◌++◌, length, take, drop}
 use Rattle.domain.specs.declared.terms.Terms.{Terms}
 use Rattle.rules.specs.Meaning.{Meaning}
 use Rattle.season.specs.declared.Call.{Call}

@@ -1,5 +1,5 @@
 -- All that was worked by hand, in one result: half hours, and the lines that correct them.
-use Rattle.std.specs.Prelude.{◌≡◌, ℕ, List, [], ◌∷◌, ◌++◌, ℤ, pos}
+use Rattle.std.specs.Prelude.{◌≡◌, ℕ, [], ◌∷◌, ◌++◌, ℤ, pos}
 use Rattle.domain.specs.Lines.{line_of, slot_lines}
 use Rattle.domain.specs.declared.Slot.{Slot}
 use Rattle.domain.specs.declared.Line.{Line}

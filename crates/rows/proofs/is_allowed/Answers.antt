@@ -1,4 +1,4 @@
-use Rattle.std.proofs.Common.{◌≡◌, ℕ, ◌-◌, ◌≤◌, Bool, true, ◌&&◌, length, take, drop, sym, ap, ◌∙◌, arith, length-drop, take_all}
+use Rattle.std.proofs.Common.{◌≡◌, ℕ, ◌-◌, Bool, true, ◌&&◌, length, take, drop, sym, ap, ◌∙◌, arith, length-drop, take_all}
 use Rattle.rows.specs.Rows.{zeros, agreement}
 use Rattle.rows.proofs.is_allowed.Goals as goal
 

@@ -1,10 +1,8 @@
-use Rattle.std.proofs.Common.{◌≡◌, ℕ, ◌≤◌, ℤ, pos, Option, sym, ap, ◌∙◌, subst, arith, w32, w64, SFits, to_z, of_z, Bor}
-use Rattle.std.proofs.lemmas.Int.{ints, to_z-of_z}
+use Rattle.std.proofs.Common.{◌≡◌, ℕ, Option, sym, ap, ◌∙◌, arith, w32, w64, to_z, of_z, Bor}
+use Rattle.std.proofs.lemmas.Int.{ints}
 use Rattle.std.specs.Option.{option_map}
 use Rattle.domain.specs.declared.AllocationRow.{AllocationRow}
-use Rattle.domain.specs.Limits.{most_kwh}
 use Rattle.rules.specs.Meaning.{Agreement, answered}
-use Rattle.rules.specs.Agreed.{agreed}
 use Rattle.rows.specs.Rows.{Tame, agreement, share_of}
 use Rattle.rows.proofs.Tamed.{tame_answered, fits_twice}
 use Rattle.rows.proofs.share.Goals as goal

@@ -1,6 +1,5 @@
-use Rattle.std.proofs.Common.{cond, Some, sum, ap, ◌∙◌, arith, take_all, below_more}
+use Rattle.std.proofs.Common.{sum, ap, ◌∙◌, arith, take_all, below_more}
 use Rattle.std.proofs.lemmas.List.Sums.{sum_by_more}
-use Rattle.std.proofs.lemmas.Bool.{cond-true, cond-false}
 use Rattle.rules.specs.Blocked.{modest_from, immodest}
 use Rattle.rules.proofs.modest_sum.Goals as goal
 

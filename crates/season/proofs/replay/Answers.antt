@@ -1,14 +1,12 @@
-use Rattle.std.proofs.Common.{◌≡◌, ℕ, ◌≤◌, min, List, ◌++◌, length, take, drop, replicate, Ok, sym, refl, ap, ◌∙◌, arith}
-use Rattle.domain.specs.Checks.{no_reading, no_volume}
+use Rattle.std.proofs.Common.{◌≡◌, min, List, ◌++◌, length, take, replicate, Ok, sym, refl, ap, ◌∙◌, arith}
+use Rattle.domain.specs.Checks.{no_reading}
 use Rattle.domain.specs.declared.Reading.{Reading}
 use Rattle.domain.specs.declared.Slot.{Slot}
 use Rattle.domain.specs.declared.terms.Terms.{Terms}
 use Rattle.book.specs.Kept.{Kept, kept, opened}
 use Rattle.book.specs.Readings.{blank_answer}
 use Rattle.season.specs.declared.Outcome.{Outcome}
-use Rattle.season.specs.Steps.{State}
 use Rattle.season.specs.Outcomes.{state_of, start_of}
-use Rattle.season.specs.Replays.{calls_made}
 use Rattle.season.proofs.Replaying.{agrees_start, replayed, turn_state, turn_outcomes, end_state, end_outcomes, no_outcomes}
 use Rattle.season.proofs.replay.Goals as goal
 

@@ -1,10 +1,10 @@
-use Rattle.std.proofs.Common.{◌≡◌, ℕ, Result, sym, ap, ◌∙◌}
+use Rattle.std.proofs.Common.{ℕ, Result, sym, ap, ◌∙◌}
 use Rattle.domain.specs.declared.Fault.{Fault}
 use Rattle.files.specs.Contents.{notice_of}
 use Rattle.book.specs.Kept.{kept}
 use Rattle.book.specs.Sharing.{schedule_room}
 use Rattle.book.proofs.Receipts.{receipt_of, refused_of}
-use Rattle.season.specs.declared.Outcome.TheVariants.{Scheduled, Refused}
+use Rattle.season.specs.declared.Outcome.TheVariants.{Scheduled}
 use Rattle.season.specs.Outcomes.{scheduled_by}
 use Rattle.season.proofs.schedule.Goals as goal
 

@@ -1,6 +1,5 @@
 use Rattle.std.proofs.Common.{◌≡◌, ◌+◌, not, eqb, drop}
 use Rattle.std.specs.List.{prefix_len}
-use Rattle.text.specs.Words.{blank}
 use Rattle.text.proofs.count_before.Given as goal
 
 abbrev pub invariant-loop-i : goal.invariant-loop-i

@@ -1,4 +1,4 @@
-use Rattle.std.proofs.Common.{◌≡◌, ◌+◌, not, eqb, drop}
+use Rattle.std.proofs.Common.{◌≡◌, ◌+◌, not, drop}
 use Rattle.std.specs.List.{prefix_len}
 use Rattle.text.specs.Words.{blank}
 use Rattle.text.proofs.count_letters.Given as goal

@@ -1,4 +1,4 @@
-use Rattle.std.proofs.Common.{◌≡◌, sym, ◌∙◌, arith}
+use Rattle.std.proofs.Common.{sym, ◌∙◌, arith}
 use Rattle.book.proofs.Rows.{rows_no, rows_yes, rows_all}
 use Rattle.book.proofs.Book.admit_rows.Goals as goal
 

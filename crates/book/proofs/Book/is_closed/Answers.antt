@@ -1,4 +1,4 @@
-use Rattle.std.proofs.Common.{◌≡◌, ℕ, ◌≤◌, Bool, false, length, get_or, sym, ap, ◌∙◌, arith}
+use Rattle.std.proofs.Common.{false, sym, arith}
 use Rattle.std.proofs.lemmas.List.{get_or_past}
 use Rattle.book.proofs.Book.is_closed.Goals as goal
 

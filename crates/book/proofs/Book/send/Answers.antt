@@ -1,4 +1,4 @@
-use Rattle.std.proofs.Common.{◌≡◌, length, ap, ◌∙◌}
+use Rattle.std.proofs.Common.{length, ap, ◌∙◌}
 use Rattle.domain.specs.Checks.{settled}
 use Rattle.issuing.specs.declared.Standing.{Standing}
 use Rattle.issuing.specs.Posted.{posted}

@@ -1,6 +1,5 @@
-use Rattle.std.proofs.Common.{◌<◌, ◌≤◌, arith}
+use Rattle.std.proofs.Common.{arith}
 use Rattle.std.proofs.lemmas.Bool.Decides.{nat_tests}
-use Rattle.domain.specs.Limits.{periods}
 use Rattle.domain.proofs.Within.{issued_within, admitted}
 use Rattle.book.proofs.Book.volume.Goals as goal
 

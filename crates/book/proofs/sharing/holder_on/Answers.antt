@@ -1,11 +1,9 @@
-use Rattle.std.proofs.Common.{◌≡◌, ℕ, ◌<◌, ◌≤◌, leb, List, length, get_or, take, Some, Ok, Err, Option, Result, sym, ap, ◌∙◌, arith, rules}
+use Rattle.std.proofs.Common.{◌≡◌, ℕ, ◌<◌, leb, List, length, take, Some, Ok, Err, sym, ap, ◌∙◌, rules}
 use Rattle.std.specs.Option.{option_map}
 use Rattle.std.specs.List.{slice_get}
 use Rattle.std.proofs.lemmas.Bool.{cond-true, le-leb}
-use Rattle.domain.specs.declared.Fault.{Fault}
 use Rattle.domain.specs.declared.Fault.TheVariants.{Spoiled}
 use Rattle.domain.specs.declared.Table.TheVariants.{Holders}
-use Rattle.history.specs.Questions.{InForce}
 use Rattle.history.specs.Entries.{in_force, entry_at}
 use Rattle.history.specs.declared.Dated.{Dated}
 use Rattle.book.specs.Sharing.{holder_on}
