@@ -31,10 +31,10 @@ pub enum Outcome {
 }
 
 impl Outcome {
-    fn of(res: Result<(), Fault>) -> Outcome
-        ensures { result ≡ done_by res }
+    fn of(answer: Result<(), Fault>) -> Outcome
+        ensures { result ≡ done_by answer }
     {
-        match res {
+        match answer {
             Ok(()) => Outcome::Done,
             Err(fault) => Outcome::Refused { fault },
         }
