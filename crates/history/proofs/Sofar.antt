@@ -1,6 +1,7 @@
 -- The entry in force among those that a search has passed.
-use Rattle.std.proofs.Common.{◌≡◌, ℕ, ◌+◌, ◌<◌, ◌≤◌, true, false, ◌&&◌, List, [], ◌∷◌, ◌++◌, length, get_or, take, Some, None, Option, sym, refl, ap, ◌∙◌, arith}
+use Rattle.std.proofs.Common.{◌≡◌, ℕ, ◌+◌, ◌<◌, ◌≤◌, Bool, true, false, not, ◌&&◌, ltb, List, [], ◌∷◌, ◌++◌, length, get_or, take, is_some, Some, None, Option, sym, refl, ap, ◌∙◌, arith}
 use Rattle.std.proofs.lemmas.List.{take_more, length-take-le}
+use Rattle.std.proofs.lemmas.Bool.{false≢true}
 use Rattle.std.proofs.lemmas.Bool.Decides.{nat_tests}
 use Rattle.history.specs.Latest.{latest, or_else}
 use Rattle.history.specs.Entries.{is_on, is_due, is_later, found}
@@ -20,6 +21,15 @@ so_far_is f d (Some b) D h = sym (latest_is f d D b h.0 h.1 h.2)
 or_none : {A : Type 0} (o : Option A) → or_else o None ≡ o
 or_none None = refl
 or_none (Some y) = refl
+
+-- what the two ways of the test say
+pub later_first : (best : Option ℕ) (D e : ℕ) (none : Bool) → is_some best ≡ not none → none ≡ true → is_later best D e ≡ true
+later_first None D e none h k = refl
+later_first (Some b) D e none h k = absurd (false≢true (sym (h ∙ ap not k)))
+
+pub later_than : (best : Option ℕ) (D e : ℕ) (none : Bool) → is_some best ≡ not none → none ≡ false → is_later best D e ≡ ltb D e
+later_than None D e none h k = absurd (false≢true (h ∙ ap not k))
+later_than (Some b) D e none h k = refl
 
 module _ {T : Type 0} (t : List (Dated T)) (s d : ℕ) (x : Dated T) where
   -- a day that the new entry is not put on

@@ -118,12 +118,10 @@ fn latest_due<T>(entries: &[Dated<T>], subject: u8, day: u16) -> Option<usize>
     let mut latest = 0;
     for (i, dated) in entries.iter().enumerate() {
         let due = dated.is_due(subject, day);
-        if due {
-            let later = is_later(best, latest, dated.day);
-            if later {
-                best = Some(i);
-                latest = dated.day;
-            }
+        let later = best.is_none() || dated.day > latest;
+        if due && later {
+            best = Some(i);
+            latest = dated.day;
         }
     }
     best
