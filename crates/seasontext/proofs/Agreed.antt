@@ -6,7 +6,7 @@ use Rattle.std.proofs.lemmas.List.{get_or-replicate, get_or_past}
 use Rattle.std.proofs.lemmas.Bool.{cases_lt, eq-eqb, eqb-true, and_parts}
 use Rattle.std.proofs.lemmas.Int.{ints}
 use Rattle.domain.specs.Slots.{reading_slot, reading_slots, issued_slots}
-use Rattle.domain.specs.Checks.{unless, no_reading, no_volume, readings_fit, issued_fit}
+use Rattle.domain.specs.Checks.{unless, no_reading, no_volume, issued_fit}
 use Rattle.domain.specs.declared.AllocationRow.{AllocationRow}
 use Rattle.domain.specs.declared.Fault.{Fault}
 use Rattle.domain.specs.declared.Fault.TheVariants.{AnotherSize}
@@ -21,7 +21,7 @@ use Rattle.season.specs.declared.Call.{Call}
 use Rattle.season.specs.declared.Call.TheVariants as call
 use Rattle.season.specs.declared.Outcome.{Outcome}
 use Rattle.season.specs.Plain.{Plain, nothing_yet, plain_step}
-use Rattle.season.specs.Steps.{State, issued}
+use Rattle.season.specs.Steps.{issued}
 use Rattle.season.specs.Outcomes.{issued_by, state_of}
 use Rattle.season.proofs.Agrees.{Agrees}
 use Rattle.season.proofs.Replaying.{agrees_start}
@@ -34,7 +34,7 @@ use Rattle.seasontext.specs.declared.desk.Draft.{Draft}
 use Rattle.seasontext.specs.Runs.{Run, slipped, answered, told, stepped, came_of, called, noted, issued_day, volume_asked, statement_asked, read_all, lent, closed_by, closed, drafted, row_put, row_faulty, tables_of, tables_put, within, entered, line_done, with_draft}
 use Rattle.seasontext.specs.Seasons.{start_of, run_lines, entry_in}
 use Rattle.seasontext.specs.Sums.{agree_text}
-use Rattle.seasontext.specs.Agreeing.{AllAgree, SeasonsAgree}
+use Rattle.seasontext.specs.Agreeing.{SeasonsAgree}
 use Rattle.seasontext.proofs.Evens.{Even, notes_by, even_step, even_issue, evenly}
 
 -- an open book and blank tables, with nothing noted

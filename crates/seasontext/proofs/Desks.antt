@@ -13,7 +13,7 @@ use Rattle.domain.specs.declared.Reading.{Reading}
 use Rattle.domain.specs.declared.Slot.{Slot}
 use Rattle.history.specs.declared.Dated.{Dated}
 use Rattle.book.specs.Kept.{Kept}
-use Rattle.season.specs.Outcomes.{state_of, accepted}
+use Rattle.season.specs.Outcomes.{state_of}
 use Rattle.season.specs.declared.Call.{Call}
 use Rattle.season.specs.declared.Call.TheVariants.{Issue, Schedule}
 use Rattle.season.specs.declared.Outcome.{Outcome}

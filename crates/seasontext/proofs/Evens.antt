@@ -1,12 +1,11 @@
 -- In every season the kWh noted for a half hour are those that its last issue split, so that its lines add up to them.
-use Rattle.std.proofs.Common.{◌≡◌, ℕ, zero, suc, ◌+◌, ◌-◌, ◌*◌, ◌<◌, ◌≤◌, Bool, true, false, cond, List, length, get_or, take, set, replicate, pos, is_ok, Some, None, Ok, Err, Option, Result, unwrap_or, sym, refl, ap, ◌∙◌, ⊎_elim, arith}
-use lib.ListN.{length-replicate}
-use Rattle.std.proofs.lemmas.List.{length-set, get_or-set_same, get_or-set_other, get_or-replicate, get_or_past}
-use Rattle.std.proofs.lemmas.Bool.{cases_eq, cases_lt, eq-eqb, ne_eqb, ltb-true, lt-ltb}
+use Rattle.std.proofs.Common.{◌≡◌, ℕ, zero, suc, ◌+◌, ◌-◌, ◌*◌, ◌<◌, ◌≤◌, Bool, true, cond, List, length, get_or, take, pos, is_ok, Some, None, Ok, Err, Option, Result, sym, refl, ap, ◌∙◌, ⊎_elim, arith}
+use Rattle.std.proofs.lemmas.List.{length-set, get_or-set_same, get_or-set_other, get_or_past}
+use Rattle.std.proofs.lemmas.Bool.{cases_eq, cases_lt, eq-eqb, ne_eqb, lt-ltb}
 use Rattle.std.proofs.lemmas.Bool.Decides.{nat_tests}
 use Rattle.domain.specs.Limits.{periods}
-use Rattle.domain.specs.Slots.{reading_slot, reading_slots, issued_slots, slots_of_day}
-use Rattle.domain.specs.Checks.{is_day, is_period, no_reading, no_volume, reading_at}
+use Rattle.domain.specs.Slots.{reading_slot, reading_slots, slots_of_day}
+use Rattle.domain.specs.Checks.{is_day, is_period, no_reading}
 use Rattle.domain.specs.declared.Fault.{Fault}
 use Rattle.domain.specs.declared.Reading.{Reading}
 use Rattle.domain.specs.declared.terms.Terms.{Terms}
@@ -19,7 +18,6 @@ use Rattle.season.specs.declared.Call.TheVariants as call
 use Rattle.season.specs.Law.{sum_of, of_period, kwh_of}
 use Rattle.season.specs.Plain.{Plain, Written, writes, plain_step}
 use Rattle.season.specs.Steps.{State, issued, accepts, step}
-use Rattle.season.specs.Outcomes.{issued_by}
 use Rattle.season.proofs.Agrees.{Agrees}
 use Rattle.season.proofs.Writings.{kwh_is}
 use Rattle.season.proofs.Turns.{agrees_step, granted_step}

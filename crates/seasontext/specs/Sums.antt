@@ -1,5 +1,5 @@
 -- The two tables at the end of a season: what was split beside what was sent, and what each supplier was sent.
-use Rattle.std.specs.Prelude.{ℕ, ◌+◌, Bool, true, false, cond, ◌||◌, List, [], ◌∷◌, ◌++◌, set, ℤ, pos, Some, None, codes, decimal, fold, Option, ◌==◌, int_lt, slice_index_or, slice_set}
+use Rattle.std.specs.Prelude.{ℕ, ◌+◌, Bool, true, false, cond, ◌||◌, List, [], ◌∷◌, ◌++◌, ℤ, pos, Some, None, codes, decimal, fold, Option, ◌==◌, int_lt, slice_index_or, slice_set}
 use Rattle.std.specs.Fmt.{signed_decimal}
 use Rattle.domain.specs.Limits.{periods, most_days}
 use Rattle.domain.specs.Lines.{gathered}

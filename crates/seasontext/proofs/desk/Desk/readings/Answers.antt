@@ -1,5 +1,4 @@
 use Rattle.std.proofs.Common.{get_or, sym, ap, ◌∙◌}
-use Rattle.season.specs.declared.Call.TheVariants as call
 use Rattle.seasontext.specs.Seen.{seen}
 use Rattle.seasontext.proofs.Loops.{read_none, read_turn}
 use Rattle.seasontext.proofs.desk.Desk.readings.Goals as goal
