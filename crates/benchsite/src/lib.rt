@@ -2,80 +2,63 @@
 #![tactic(auto)]
 
 use book::Book;
-use domain::{AllocationRow, Line, NOMINATIONS, Reading, Slot, Terms, issued_slots, reading_slots};
+use domain::{
+    AllocationRow, Line, NOMINATIONS, PERIODS, Reading, Slot, Terms, issued_slots, reading_slots,
+};
 use history::Dated;
 use rules::House;
-use season::{Call, Outcome, apply};
+use season::{Accepted, Call, Outcome, Tables, apply};
 use std::alloc::{AllocError, Global};
 
-// The bytes of a call and of a row, and the rows of a schedule.
+// The bytes of a call, of a row and of a nomination, and the rows of a schedule.
 const CALL: usize = 12;
 
-const ROW: usize = 34;
+const NOMINATION: usize = 4;
 
-const DAY: usize = 48;
+const ROW: usize = 2 + NOMINATIONS * NOMINATION;
 
-const NO_HOLDER: Dated<u16> = Dated {
-    subject: 0,
-    day: 0,
-    entry: 0,
-};
+const DAY: usize = PERIODS as usize;
 
-const NO_ROW: Dated<AllocationRow> = Dated {
-    subject: 0,
-    day: 0,
-    entry: AllocationRow {
-        method: 0,
-        balance: 0,
-        nominations: [0; NOMINATIONS],
-    },
-};
+// Why no season was run.
+#[derive(Debug, Drop)]
+enum Unrun {
+    NoCall,
+    NoMemory(AllocError),
+}
 
-const NO_LINE: Line = Line {
-    day: 0,
-    period: 0,
-    place: 0,
-    supplier: 0,
-    run: 0,
-    volume: 0,
-};
-
-// A 32-bit number at a byte, 0 past the end.
-fn number(bytes: &[u8], at: usize) -> u32 {
-    match bytes.get(at..at.saturating_add(4)) {
-        Some([b3, b2, b1, b0]) => u32::from_be_bytes([*b3, *b2, *b1, *b0]),
-        _ => 0,
+impl From<AllocError> for Unrun {
+    fn from(error: AllocError) -> Unrun {
+        Unrun::NoMemory(error)
     }
 }
 
 // A row: method, balance place, and eight nominations of 32 bits.
 fn row(bytes: &[u8]) -> AllocationRow {
+    let [method, balance, rest @ ..] = bytes else {
+        return AllocationRow::NONE;
+    };
     let mut nominations = [0; NOMINATIONS];
-    for i in 0..NOMINATIONS {
-        nominations[i] = number(bytes, 2 + 4 * i);
+    for (nomination, bytes) in nominations.iter_mut().zip(rest.chunks_exact(NOMINATION)) {
+        if let [b3, b2, b1, b0] = bytes {
+            *nomination = u32::from_be_bytes([*b3, *b2, *b1, *b0]);
+        }
     }
     AllocationRow {
-        method: bytes.get(0).copied().unwrap_or(0),
-        balance: bytes.get(1).copied().unwrap_or(0),
+        method: *method,
+        balance: *balance,
         nominations,
     }
 }
 
 fn rows(heap: Global, bytes: &[u8]) -> Result<Vec<AllocationRow>, AllocError> {
-    let mut rows = Vec::new(heap);
-    for bytes in bytes.chunks_exact(ROW) {
-        rows.push(row(bytes))?;
-    }
-    Ok(rows)
+    bytes.chunks_exact(ROW).map(row).collect(heap)
 }
 
 // The schedule of a number, of those that stand one after the other.
 fn schedule(rows: &[AllocationRow], number: u16) -> &[AllocationRow] {
-    let from = usize::from(number) * DAY;
-    match rows.get(from..from + DAY) {
-        Some(schedule) => schedule,
-        None => &[],
-    }
+    rows.chunks_exact(DAY)
+        .nth(usize::from(number))
+        .unwrap_or(&[])
 }
 
 // A call: its kind, a place, period or run, a supplier or quality, a day, the number of a schedule, and a moment or kWh.
@@ -86,6 +69,7 @@ fn call<'a>(record: &[u8], rows: &'a [AllocationRow]) -> Option<Call<'a>> {
     let party = u16::from_be_bytes([*p1, *p0]);
     let day = u16::from_be_bytes([*d1, *d0]);
     let number = u32::from_be_bytes([*n3, *n2, *n1, *n0]);
+    // the numbers of the kinds are the boundary's
     match kind {
         0 => Some(Call::Register {
             place: *small,
@@ -114,56 +98,67 @@ fn call<'a>(record: &[u8], rows: &'a [AllocationRow]) -> Option<Call<'a>> {
     }
 }
 
-// Writes bytes where there is room, and says where the next go.
-fn put(out: &mut [u8], at: usize, bytes: &[u8]) -> usize {
-    let end = at.saturating_add(bytes.len());
-    if end <= out.len() && at <= end {
-        out[at..end].copy_from_slice(bytes);
-    }
-    end
-}
-
-fn put_outcome(out: &mut [u8], at: usize, outcome: Outcome) -> usize {
-    match outcome {
-        Outcome::Done => put(out, at, &[0]),
-        Outcome::Scheduled { notice } => {
-            let at = put(out, at, &[1]);
-            put(out, at, &notice)
-        }
-        Outcome::Issued { lines } => {
-            let at = put(out, at, &[2]);
-            put(out, at, &(lines as u64).to_be_bytes())
-        }
-        Outcome::Refused { fault } => {
-            let at = put(out, at, &[3, fault.number()]);
-            put(out, at, &fault.spot().to_be_bytes())
-        }
-    }
-}
-
-fn put_line(out: &mut [u8], at: usize, line: Line) -> usize {
-    let [d1, d0] = line.day.to_be_bytes();
-    let [s1, s0] = line.supplier.to_be_bytes();
-    let [v3, v2, v1, v0] = line.volume.to_be_bytes();
-    let bytes = [
-        d1,
-        d0,
-        line.period,
-        line.place,
-        s1,
-        s0,
-        line.run,
-        v3,
-        v2,
-        v1,
-        v0,
-    ];
-    put(out, at, &bytes)
-}
-
-// The five tables of a book.
+// What is written: bytes go on where those before ended, as far as there is room, and all are counted.
 #[derive(Drop)]
-struct Tables {
+struct Output<'a> {
+    room: &'a mut [u8],
+    written: usize,
+}
+
+impl Output<'_> {
+    fn put(&mut self, bytes: &[u8]) {
+        let from = self.written;
+        let to = from.saturating_add(bytes.len());
+        if let Some(place) = self.room.get_mut(from..to) {
+            place.copy_from_slice(bytes);
+        }
+        self.written = to;
+    }
+
+    fn put_outcome(&mut self, outcome: Outcome) {
+        match outcome {
+            Ok(Accepted::Done) => self.put(&[0]),
+            Ok(Accepted::Scheduled { notice }) => {
+                self.put(&[1]);
+                self.put(&notice);
+            }
+            Ok(Accepted::Issued { lines }) => {
+                self.put(&[2]);
+                self.put(&(lines as u64).to_be_bytes());
+            }
+            Err(fault) => {
+                self.put(&[3, fault.number()]);
+                self.put(&fault.spot().to_be_bytes());
+            }
+        }
+    }
+
+    // The bytes of a line are put as one, since each `put` tests the room.
+    fn put_line(&mut self, line: Line) {
+        let [d1, d0] = line.day.to_be_bytes();
+        let [s1, s0] = line.supplier.to_be_bytes();
+        let [v3, v2, v1, v0] = line.volume.to_be_bytes();
+        let bytes = [
+            d1,
+            d0,
+            line.period,
+            line.place,
+            s1,
+            s0,
+            line.run,
+            v3,
+            v2,
+            v1,
+            v0,
+        ];
+        self.put(&bytes);
+    }
+}
+
+// A book with tables of its own.
+#[derive(Drop)]
+struct Site {
+    book: Book<House>,
     holders: Vec<Dated<u16>>,
     rows: Vec<Dated<AllocationRow>>,
     readings: Vec<Reading>,
@@ -171,62 +166,55 @@ struct Tables {
     journal: Vec<Line>,
 }
 
-impl Tables {
-    // Tables that hold every day, and so many lines.
-    fn new(heap: Global, terms: Terms, lines: usize) -> Result<Tables, AllocError> {
+impl Site {
+    // A site whose tables hold every day, and so many lines.
+    fn open(heap: Global, terms: Terms, lines: usize) -> Result<Site, AllocError> {
         let half_hours = reading_slots(terms.days);
         let slots = issued_slots(terms.places, terms.days);
         let holders = usize::from(terms.places) * usize::from(terms.days);
-        Ok(Tables {
-            holders: Vec::from_elem(heap, NO_HOLDER, holders)?,
-            rows: Vec::from_elem(heap, NO_ROW, half_hours)?,
-            readings: Vec::from_elem(heap, Reading::NONE, half_hours)?,
-            issued: Vec::from_elem(heap, Slot::NONE, slots)?,
-            journal: Vec::from_elem(heap, NO_LINE, lines)?,
+        let no_row = Dated::blank(AllocationRow::NONE);
+        Ok(Site {
+            book: Book::open(terms, House),
+            holders: vec![in heap; Dated::blank(0); holders]?,
+            rows: vec![in heap; no_row; half_hours]?,
+            readings: vec![in heap; Reading::NONE; half_hours]?,
+            issued: vec![in heap; Slot::NONE; slots]?,
+            journal: vec![in heap; Line::NONE; lines]?,
         })
     }
 
-    fn apply(&mut self, book: &mut Book<House>, call: Call<'_>) -> Outcome {
-        apply(
-            book,
-            self.holders.as_mut_slice(),
-            self.rows.as_mut_slice(),
-            self.readings.as_mut_slice(),
-            self.issued.as_mut_slice(),
-            self.journal.as_mut_slice(),
-            &call,
-        )
+    fn apply(&mut self, call: &Call<'_>) -> Outcome {
+        let mut tables = Tables {
+            holders: &mut self.holders[..],
+            rows: &mut self.rows[..],
+            readings: &mut self.readings[..],
+            issued: &mut self.issued[..],
+            journal: &mut self.journal[..],
+        };
+        apply(&mut self.book, &mut tables, call)
     }
 }
 
-// Makes the calls, and writes what came of each and the lines; says how many bytes that takes.
+// Makes the calls on a new site, and writes what came of each and the lines that were sent; answers the bytes that this takes.
 fn run(
     heap: Global,
     terms: Terms,
     lines: usize,
     calls: &[u8],
     schedules: &[u8],
-    out: &mut [u8],
-) -> Result<usize, AllocError> {
+    room: &mut [u8],
+) -> Result<usize, Unrun> {
     let schedules = rows(heap, schedules)?;
-    let mut tables = Tables::new(heap, terms, lines)?;
-    let mut book = Book::open(terms, House);
-    let mut sent = 0;
-    let mut at = 0;
+    let mut site = Site::open(heap, terms, lines)?;
+    let mut out = Output { room, written: 0 };
     for record in calls.chunks_exact(CALL) {
-        let Some(call) = call(record, schedules.as_slice()) else {
-            return Ok(0);
-        };
-        let came = tables.apply(&mut book, call);
-        if let Outcome::Issued { lines } = came {
-            sent = usize::saturating_add(sent, lines);
-        }
-        at = put_outcome(out, at, came);
+        let call = call(record, schedules.as_slice()).ok_or(Unrun::NoCall)?;
+        out.put_outcome(site.apply(&call));
     }
-    for line in tables.journal.iter().take(sent) {
-        at = put_line(out, at, *line);
+    for line in site.journal.iter().take(site.book.lines()) {
+        out.put_line(*line);
     }
-    Ok(at)
+    Ok(out.written)
 }
 
 // Runs a season on a site of these terms, with room for so many lines. It answers the bytes of the output, or 0 where the terms are outside their limits, a call is none or memory runs out.
@@ -241,11 +229,8 @@ pub extern "C" fn benchsite_run(
     schedules: &[u8],
     out: &mut [u8],
 ) -> usize {
-    match Terms::new(places, days, capacity) {
-        Ok(terms) => match run(heap, terms, lines, calls, schedules, out) {
-            Ok(written) => written,
-            Err(_) => 0,
-        },
-        Err(_) => 0,
-    }
+    let Ok(terms) = Terms::new(places, days, capacity) else {
+        return 0;
+    };
+    run(heap, terms, lines, calls, schedules, out).unwrap_or(0)
 }

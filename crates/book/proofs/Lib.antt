@@ -1,5 +1,4 @@
 pub mod Gated
-pub mod Held
 pub mod Receipts
 pub mod Rows
 pub mod Sendings

@@ -1,5 +1,5 @@
 -- What a book keeps beside its terms and its rule.
-use Rattle.std.specs.Prelude.{ℕ, Bool, false, List, replicate, None, Option, slice_index_or}
+use Rattle.std.specs.Prelude.{◌≡◌, ℕ, Bool, false, List, replicate, None, Option, slice_index_or}
 use Rattle.domain.specs.Limits.{most_days}
 use Rattle.book.specs.declared.Book.{Book}
 
@@ -13,6 +13,10 @@ pub record Kept : Type 0 where
 
 abbrev pub kept : {R : Type 0} → Book R → Kept
 kept b = record { holders = b.holders; rows = b.rows; lines = b.lines; ended = b.ended; closed = b.closed }
+
+-- a call keeps the terms and the rule of the book
+abbrev pub SameTerms : {R : Type 0} → Book R → Book R → Type 0
+SameTerms old new = (new.terms ≡ old.terms) × (new.rule ≡ old.rule)
 
 -- a book as it is opened: nothing held, no end, all days open
 abbrev pub opened : Kept

@@ -1,17 +1,14 @@
 // Issuing a day.
 ghost use Rattle.std.specs.Prelude.{◌≡◌, ◌+◌, ◌<◌, ◌≤◌, length, IfOk};
 ghost use Rattle.domain.specs.Checks.{settled};
-ghost use Rattle.book.specs.Kept.{kept, is_closed};
+ghost use Rattle.book.specs.Kept.{kept, is_closed, SameTerms};
 ghost use Rattle.book.specs.Issues.{standing_of, after_issue, issue_verdict, slots_issued, journal_sent};
 
 use super::Book;
-use domain::{AllocationRow, Fault, Line, Reading, Slot};
+use domain::{AllocationRow, Fault, Line, Reading, Run, Slot};
 use history::Dated;
-use issuing::Standing;
+use issuing::{Order, Standing};
 use rules::Rule;
-
-// The run that closes its day, Final Reconciliation.
-const FINAL: u8 = 2;
 
 impl<R: Rule> Book<R> {
     // Splits a day's readings by the rows in force, and sends each supplier what changed since the day's last issue; answers the lines sent.
@@ -29,22 +26,22 @@ impl<R: Rule> Book<R> {
         ensures issued { issued.new ≡ settled result (slots_issued (R.Rule.meaning self.old.rule) self.old.terms (kept self.old) holders.now rows.now readings.now issued.old journal.old day run) issued.old }
         ensures journal { journal.new ≡ settled result (journal_sent (R.Rule.meaning self.old.rule) self.old.terms (kept self.old) holders.now rows.now readings.now issued.old journal.old day run) journal.old }
         ensures keeps { kept self.new ≡ after_issue result day run (kept self.old) }
-        ensures same { (self.new.terms ≡ self.old.terms) × (self.new.rule ≡ self.old.rule) }
+        ensures same { SameTerms self.old self.new }
     {
         let sent = self.send(holders, rows, readings, issued, journal, day, run)?;
         self.lines += sent;
-        if run == FINAL {
+        if Run::try_from(run) == Ok(Run::Final) {
             self.closed[usize::from(day)] = true;
         }
         Ok(sent)
     }
 
     // Sends the lines, and fills the slots of the day.
-    fn send(
-        &self,
-        holders: &[Dated<u16>],
-        rows: &[Dated<AllocationRow>],
-        readings: &[Reading],
+    fn send<'a>(
+        &'a self,
+        holders: &'a [Dated<u16>],
+        rows: &'a [Dated<AllocationRow>],
+        readings: &'a [Reading],
         issued: &mut [Slot],
         journal: &mut [Line],
         day: u16,
@@ -55,10 +52,17 @@ impl<R: Rule> Book<R> {
         ensures journal { journal.new ≡ settled result (journal_sent (R.Rule.meaning self.now.rule) self.now.terms (kept self.now) holders.now rows.now readings.now issued.old journal.old day run) journal.old }
         ensures room { IfOk result (λ sent. (day < 62) × (self.now.lines + sent ≤ length journal.old)) }
     {
-        let standing = self.standing(day);
-        issuing::issue(
-            &self.rule, self.terms, standing, holders, rows, readings, issued, journal, day, run,
-        )
+        let order = Order {
+            rule: &self.rule,
+            terms: self.terms,
+            standing: self.standing(day),
+            holders,
+            rows,
+            readings,
+            day,
+            run,
+        };
+        order.issue(issued, journal)
     }
 
     // What the book knows of itself when it issues a day.
@@ -77,9 +81,6 @@ impl<R: Rule> Book<R> {
     fn is_closed(&self, day: u16) -> bool
         ensures { result ≡ is_closed (kept self.now) day }
     {
-        match self.closed.get(usize::from(day)) {
-            Some(closed) => *closed,
-            None => false,
-        }
+        self.closed.get(usize::from(day)).copied().unwrap_or(false)
     }
 }

@@ -9,8 +9,8 @@ ghost use Rattle.book.specs.Gates.{GateKept};
 ghost use Rattle.book.specs.Volumes.{volume_answer, directed, issued_volume};
 
 use domain::{
-    Fault, MAX_KWH, Reading, Slot, Table, Terms, admit, is_period, is_quality, issued_slot,
-    reading_slot,
+    Fault, MAX_DAYS, MAX_KWH, Quality, Reading, Slot, Table, Terms, admit, is_period, is_quality,
+    issued_slot, reading_slot,
 };
 use rules::Rule;
 
@@ -20,6 +20,9 @@ mod sharing;
 mod statements;
 
 pub use notices::Receipt;
+
+// The days that a book has room for.
+const DAYS: usize = MAX_DAYS as usize;
 
 // What a book keeps. The tables that its calls work on are lent to each call.
 #[derive(Drop)]
@@ -32,7 +35,7 @@ pub struct Book<R> {
     lines: usize,
     // the day from which the sharing has ended
     ended: Option<u16>,
-    closed: [bool; 62],
+    closed: [bool; DAYS],
 }
 
 impl<R: Rule> Book<R> {
@@ -48,7 +51,7 @@ impl<R: Rule> Book<R> {
             rows: 0,
             lines: 0,
             ended: None,
-            closed: [false; 62],
+            closed: [false; DAYS],
         }
     }
 
@@ -60,8 +63,8 @@ impl<R: Rule> Book<R> {
     {
         self.terms.fit_readings(readings)?;
         self.terms.fit_issued(issued)?;
-        empty_readings(readings);
-        empty_slots(issued);
+        readings.fill(Reading::NONE);
+        issued.fill(Slot::NONE);
         Ok(())
     }
 
@@ -106,7 +109,8 @@ impl<R: Rule> Book<R> {
         if self.closed[usize::from(day)] {
             return Err(Fault::DayClosed { day });
         }
-        if quality == 1 && was.quality == 2 {
+        let estimated = Quality::try_from(quality) == Ok(Quality::Estimated);
+        if estimated && Quality::try_from(was.quality) == Ok(Quality::Actual) {
             return Err(Fault::EstimateOverActual { period });
         }
         Ok(())
@@ -146,27 +150,9 @@ impl<R: Rule> Book<R> {
 fn issued_volume(slot: Slot) -> Option<(u32, u32)>
     ensures { result ≡ issued_volume slot }
 {
-    if slot.supplier == 0 {
-        return None;
-    }
     let kwh = slot.volume.unsigned_abs();
-    if slot.volume < 0 {
-        Some((0, kwh))
-    } else {
-        Some((kwh, 0))
-    }
-}
-
-fn empty_readings(readings: &mut [Reading])
-    ensures { readings.new ≡ replicate (length readings.old) no_reading }
-{
-    readings.fill(Reading::NONE);
-}
-
-fn empty_slots(issued: &mut [Slot])
-    ensures { issued.new ≡ replicate (length issued.old) no_volume }
-{
-    issued.fill(Slot::NONE);
+    let directed = if slot.volume < 0 { (0, kwh) } else { (kwh, 0) };
+    (slot.supplier != 0).then_some(directed)
 }
 
 // A schedule or an end at the gate's minute itself is still in time, and any later one is refused for it.

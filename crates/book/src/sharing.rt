@@ -5,7 +5,7 @@ ghost use Rattle.domain.specs.declared.Table.TheVariants.{Holders};
 ghost use Rattle.domain.specs.declared.Fault.TheVariants.{Spoiled};
 ghost use Rattle.history.specs.Questions.{AfterPut, AfterDay};
 ghost use Rattle.history.specs.Puts.{put_one, put_day, holding_if};
-ghost use Rattle.book.specs.Kept.{kept};
+ghost use Rattle.book.specs.Kept.{kept, SameTerms};
 ghost use Rattle.book.specs.Sharing.{done, holding, register_room, with_holders, primary_on, end_answer, ended_from, holder_on, rows_allowed, schedule_admit, schedule_room, before_end, with_rows, receipt_for};
 ghost use Rattle.domain.specs.Limits.{periods};
 
@@ -27,7 +27,7 @@ impl<R: Rule> Book<R> {
         ensures answer { result ≡ done (register_room self.old.terms (kept self.old) holders.old place day supplier) }
         ensures holders { holders.new ≡ holding_if (register_room self.old.terms (kept self.old) holders.old place day supplier) (put_one (take self.old.holders holders.old) (holding place day supplier)) holders.old }
         ensures keeps { kept self.new ≡ with_holders (register_room self.old.terms (kept self.old) holders.old place day supplier) (kept self.old) }
-        ensures same { (self.new.terms ≡ self.old.terms) × (self.new.rule ≡ self.old.rule) }
+        ensures same { SameTerms self.old self.new }
         ensures says { MatchResult result (λ _. AfterPut (take self.old.holders holders.old) (holding place day supplier) (take self.new.holders holders.new)) (λ _. holders.new ≡ holders.old) }
     {
         admit(1, self.terms.has_place(place))?;
@@ -52,7 +52,7 @@ impl<R: Rule> Book<R> {
     ) -> Result<(), Fault>
         ensures answer { result ≡ end_answer self.old.terms (kept self.old) holders.now sender day moment }
         ensures keeps { kept self.new ≡ settled result (ended_from day (kept self.old)) (kept self.old) }
-        ensures same { (self.new.terms ≡ self.old.terms) × (self.new.rule ≡ self.old.rule) }
+        ensures same { SameTerms self.old self.new }
     {
         self.admit_end(holders, sender, day, moment)?;
         self.ended = Some(day);
@@ -96,7 +96,7 @@ impl<R: Rule> Book<R> {
         ensures answer { result ≡ receipt_for (schedule_room (R.Rule.meaning self.old.rule) self.old.terms (kept self.old) holders.now rows.old sender day moment schedule.now) day sender moment }
         ensures rows { rows.new ≡ holding_if (schedule_room (R.Rule.meaning self.old.rule) self.old.terms (kept self.old) holders.now rows.old sender day moment schedule.now) (put_day (take self.old.rows rows.old) day schedule.now) rows.old }
         ensures keeps { kept self.new ≡ with_rows (schedule_room (R.Rule.meaning self.old.rule) self.old.terms (kept self.old) holders.now rows.old sender day moment schedule.now) (kept self.old) }
-        ensures same { (self.new.terms ≡ self.old.terms) × (self.new.rule ≡ self.old.rule) }
+        ensures same { SameTerms self.old self.new }
         ensures says { MatchResult result (λ _. AfterDay (take self.old.rows rows.old) day (take periods schedule.now) (take self.new.rows rows.new)) (λ _. rows.new ≡ rows.old) }
     {
         self.admit_schedule(holders, rows, sender, day, moment, schedule)?;
@@ -137,12 +137,10 @@ impl<R: Rule> Book<R> {
         requires { length schedule.now ≤ periods }
         ensures { result ≡ rows_allowed (R.Rule.meaning self.now.rule) self.now.terms 1 schedule.now }
     {
-        let mut period = 1;
-        for row in schedule {
+        for (period, row) in (1..=PERIODS).zip(schedule) {
             if !is_allowed(&self.rule, self.terms, row) {
                 return Err(Fault::UnlawfulRow { period });
             }
-            period += 1;
         }
         Ok(())
     }
@@ -160,28 +158,13 @@ impl<R: Rule> Book<R> {
     fn primary_on(&self, holders: &[Dated<u16>], day: u16) -> Result<Option<u16>, Fault>
         ensures { result ≡ primary_on (kept self.now) holders.now day }
     {
-        let primary = holder_on(holders, self.holders, 0, day)?;
+        let held = History::held(holders, self.holders, Table::Holders)?;
+        let primary = held.entry_in_force(0, day);
         if primary == Some(0) {
             return Err(Fault::Spoiled {
                 table: Table::Holders,
             });
         }
         Ok(primary)
-    }
-}
-
-// Who holds a place on a day, by the entries that are held.
-fn holder_on(
-    holders: &[Dated<u16>],
-    count: usize,
-    place: u8,
-    day: u16,
-) -> Result<Option<u16>, Fault>
-    ensures { result ≡ unless (nat_le count (length holders.now)) (Spoiled Holders) (Ok (holder_on (take count holders.now) place day)) }
-{
-    let held = History::held(holders, count, Table::Holders)?;
-    match held.in_force(place, day) {
-        Some(index) => Ok(Some(holders[index].entry)),
-        None => Ok(None),
     }
 }

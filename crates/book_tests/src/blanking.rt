@@ -27,18 +27,8 @@ fn blank(
     Ok(refusal(open()?.blank(&mut readings[0..some], &mut issued[0..others])))
 }
 
-fn are_all(readings: &[Reading], reading: Reading, issued: &[Slot], slot: Slot) -> bool {
-    for held in readings {
-        if *held != reading {
-            return false;
-        }
-    }
-    for held in issued {
-        if *held != slot {
-            return false;
-        }
-    }
-    true
+fn are_all<T: Copy + PartialEq>(table: &[T], element: T) -> bool {
+    table.iter().all(|held| *held == element)
 }
 
 // A refused call leaves both tables as they were, and an accepted one empties what it is lent.
@@ -47,18 +37,13 @@ fn sizes(rt: HostRuntime) -> Result<(), Fail> {
     let readings: &mut [Reading] = &mut [METERED; READINGS + 1];
     let issued: &mut [Slot] = &mut [SENT; SLOTS + 1];
     for (some, others, expected) in CASES {
-        assert!(rt; are_all(readings, METERED, issued, SENT));
+        assert!(rt; are_all(readings, METERED) && are_all(issued, SENT));
         assert_eq!(rt; blank(readings, issued, some, others)?, expected);
     }
     assert!(rt; readings.len() == READINGS + 1 && issued.len() == SLOTS + 1);
-    assert!(rt;
-        are_all(
-            &readings[0..READINGS],
-            Reading::NONE,
-            &issued[0..SLOTS],
-            Slot::NONE,
-        )
-    );
-    assert!(rt; are_all(&readings[READINGS..], METERED, &issued[SLOTS..], SENT));
+    assert!(rt; are_all(&readings[0..READINGS], Reading::NONE));
+    assert!(rt; are_all(&issued[0..SLOTS], Slot::NONE));
+    assert!(rt; are_all(&readings[READINGS..], METERED));
+    assert!(rt; are_all(&issued[SLOTS..], SENT));
     Ok(())
 }

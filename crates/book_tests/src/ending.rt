@@ -1,5 +1,5 @@
 // Ending the sharing: 8, 10, 13, 14, 15.
-use crate::helpers::{NOBODY, Refusal, Wrong, end, open, register};
+use crate::helpers::{NOBODY, Refusal, end, first_is_answered, open, register};
 use history::Dated;
 use std::process::Abort;
 use std::test::Fail;
@@ -65,54 +65,64 @@ fn spoiled_holders(rt: HostRuntime) -> Result<(), Fail> {
         assert_eq!(rt; register(&mut book, &mut holders, 3, 0, 0, 101), None);
         assert_eq!(rt; register(&mut book, &mut holders, 3, 0, 1, 101), None);
         assert_eq!(rt; register(&mut book, &mut holders, 3, 0, 2, 101), None);
-        spoil(&mut holders, at);
+        spoil(&mut holders, at)?;
         assert_eq!(rt; end(&mut book, &holders, 3, 101, 1, 0), expected);
     }
     Ok(())
 }
 
-fn spoil(holders: &mut [Dated<u16>], at: usize) {
-    if at < holders.len() {
-        holders[at].entry = 0;
-    }
+fn spoil(holders: &mut [Dated<u16>], at: usize) -> Result<(), Fail> {
+    let holder = holders.get_mut(at).ok_or("no such holder")?;
+    holder.entry = 0;
+    Ok(())
 }
 
-// Of what can be wrong, the refusal, in the order in which it is answered.
-const REFUSALS: [(u8, u64); 7] = [
-    (8, 1),
-    (8, 2),
-    (10, 4_260),
-    (13, 1),
-    (13, 1),
-    (14, 2),
-    (15, 1),
+// What can be wrong with an end.
+#[derive(Clone, Copy)]
+enum Wrong {
+    SenderZero,
+    DayOutside,
+    TooLate,
+    HoldersCut,
+    HolderSpoiled,
+    AnotherSender,
+    AlreadyEnded,
+}
+
+// What can be wrong, with its refusal, in the order in which it is answered.
+const REFUSALS: [(Wrong, (u8, u64)); 7] = [
+    (Wrong::SenderZero, (8, 1)),
+    (Wrong::DayOutside, (8, 2)),
+    (Wrong::TooLate, (10, 4_260)),
+    (Wrong::HoldersCut, (13, 1)),
+    (Wrong::HolderSpoiled, (13, 1)),
+    (Wrong::AnotherSender, (14, 2)),
+    (Wrong::AlreadyEnded, (15, 1)),
 ];
 
-fn attempt(rt: &impl Abort, wrong: Wrong) -> Result<Refusal, Fail> {
+// What is wrong last is done first, so that what is wrong first stands.
+fn attempt(rt: &impl Abort, one: Option<Wrong>, other: Option<Wrong>) -> Result<Refusal, Fail> {
     let mut book = open()?;
     let mut holders = [NOBODY; 1];
     assert_eq!(rt; register(&mut book, &mut holders, 1, 0, 0, 101), None);
-    if wrong.has(6) {
-        assert_eq!(rt; end(&mut book, &holders, 1, 101, 1, 0), None);
+    let (mut room, mut sender, mut day, mut moment) = (1, 101, 2, 4_260);
+    for wrong in [other, one].into_iter().flatten() {
+        match wrong {
+            Wrong::SenderZero => sender = 0,
+            Wrong::DayOutside => day = 3,
+            Wrong::TooLate => moment = 5_701,
+            Wrong::HoldersCut => room = 0,
+            Wrong::HolderSpoiled => holders[0].entry = 0,
+            Wrong::AnotherSender => sender = 102,
+            Wrong::AlreadyEnded => {
+                assert_eq!(rt; end(&mut book, &holders, 1, 101, 1, 0), None);
+            }
+        }
     }
-    if wrong.has(4) {
-        spoil(&mut holders, 0);
-    }
-    let primary = if wrong.has(5) { 102 } else { 101 };
-    let sender = if wrong.has(0) { 0 } else { primary };
-    let day = if wrong.has(1) { 3 } else { 2 };
-    let moment = if wrong.has(2) { 5_701 } else { 4_260 };
-    let room = if wrong.has(3) { 0 } else { 1 };
     Ok(end(&mut book, &holders, room, sender, day, moment))
 }
 
 #[test]
 fn of_two_the_first_is_answered(rt: HostRuntime) -> Result<(), Fail> {
-    assert_eq!(rt; attempt(&rt, Wrong::NOTHING)?, None);
-    for (one, expected) in REFUSALS.iter().enumerate() {
-        for other in one..REFUSALS.len() {
-            assert_eq!(rt; attempt(&rt, Wrong { one, other })?, Some(*expected));
-        }
-    }
-    Ok(())
+    first_is_answered(&rt, &REFUSALS, |one, other| attempt(&rt, one, other))
 }

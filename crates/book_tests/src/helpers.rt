@@ -1,8 +1,9 @@
 // What the tests have in common: a small book, empty tables, rows, and what a call answered.
 use book::Book;
-use domain::{AllocationRow, Fault, Reading, Slot, Terms};
+use domain::{AllocationRow, Fault, Quality, Reading, Slot, Terms};
 use history::Dated;
 use rules::House;
+use std::process::Abort;
 use std::test::Fail;
 
 // A book of two places and three days, with a capacity of 60 kWh.
@@ -54,7 +55,7 @@ pub(crate) fn fixed(kwh: u32) -> AllocationRow {
 
 // A reading and a slot as a blank table does not have them.
 pub(crate) const METERED: Reading = Reading {
-    quality: 1,
+    quality: Quality::Estimated as u8,
     kwh: 30,
 };
 
@@ -63,14 +64,15 @@ pub(crate) const SENT: Slot = Slot {
     volume: 21,
 };
 
+pub(crate) fn number_and_spot(fault: Fault) -> (u8, u64) {
+    (fault.number(), fault.spot())
+}
+
 // A refusal's number and spot, or none where the call was accepted.
 pub(crate) type Refusal = Option<(u8, u64)>;
 
 pub(crate) fn refusal<T: Drop>(answer: Result<T, Fault>) -> Refusal {
-    match answer {
-        Ok(_) => None,
-        Err(fault) => Some((fault.number(), fault.spot())),
-    }
+    answer.err().map(number_and_spot)
 }
 
 // Registers a supplier at a place from a day on, in a table of the first `room` elements.
@@ -136,51 +138,23 @@ pub(crate) fn schedule(
         sent.moment,
         &list[0..count],
     );
-    match answer {
-        Ok(receipt) => {
-            let _ = receipt.confirm();
-            None
-        }
-        Err(fault) => Some((fault.number(), fault.spot())),
-    }
+    refusal(answer.map(|receipt| receipt.confirm()))
 }
 
-// Whether two tables hold the same.
-pub(crate) fn same<T: PartialEq>(one: &[Dated<T>], other: &[Dated<T>]) -> bool {
-    if one.len() != other.len() {
-        return false;
-    }
-    for (i, dated) in one.iter().enumerate() {
-        let at = &other[i];
-        if dated.subject != at.subject || dated.day != at.day || dated.entry != at.entry {
-            return false;
+// With nothing wrong a call is accepted. Of two things that are wrong the first of the list is answered.
+pub(crate) fn first_is_answered<W: Copy, F: Fn(Option<W>, Option<W>) -> Result<Refusal, Fail>>(
+    rt: &impl Abort,
+    refusals: &[(W, (u8, u64))],
+    attempt: F,
+) -> Result<(), Fail>
+    requires { F.IsAlwaysCallable attempt }
+{
+    assert_eq!(rt; attempt(None, None)?, None);
+    for (at, (one, expected)) in refusals.iter().enumerate() {
+        assert_eq!(rt; attempt(Some(*one), None)?, Some(*expected));
+        for (other, _) in refusals.iter().skip(at + 1) {
+            assert_eq!(rt; attempt(Some(*one), Some(*other))?, Some(*expected));
         }
     }
-    true
-}
-
-// One or two things that are wrong with a call, of those that a list names.
-#[derive(Clone, Copy)]
-pub(crate) struct Wrong {
-    pub(crate) one: usize,
-    pub(crate) other: usize,
-}
-
-impl Wrong {
-    pub(crate) const NOTHING: Wrong = Wrong { one: 99, other: 99 };
-
-    // How long a table is lent: as the first says where it is among those wrong, or as the second says, or as it should be.
-    pub(crate) fn room(self, spoiled: usize, full: usize, lengths: [usize; 3]) -> usize {
-        if self.has(spoiled) {
-            lengths[0]
-        } else if self.has(full) {
-            lengths[1]
-        } else {
-            lengths[2]
-        }
-    }
-
-    pub(crate) fn has(self, which: usize) -> bool {
-        self.one == which || self.other == which
-    }
+    Ok(())
 }

@@ -1,5 +1,5 @@
 // Registering a holder: 8, 13, 21.
-use crate::helpers::{NOBODY, Refusal, Wrong, open, register, same};
+use crate::helpers::{NOBODY, Refusal, first_is_answered, open, register};
 use history::Dated;
 use std::process::Abort;
 use std::test::Fail;
@@ -43,7 +43,7 @@ fn limits(rt: HostRuntime) -> Result<(), Fail> {
         put(0, 1, 101),
         NOBODY,
     ];
-    assert!(rt; same(holders, &held));
+    assert_eq!(rt; &*holders, held.as_slice());
     Ok(())
 }
 
@@ -55,36 +55,53 @@ fn put(place: u8, day: u16, supplier: u16) -> Dated<u16> {
     }
 }
 
-// Of what can be wrong, the refusal, in the order in which it is answered.
-const REFUSALS: [(u8, u64); 5] = [(8, 1), (8, 2), (8, 3), (13, 1), (21, 3)];
+// What can be wrong with a register.
+#[derive(Clone, Copy)]
+enum Wrong {
+    PlaceOutside,
+    DayOutside,
+    SupplierZero,
+    HoldersCut,
+    HoldersFull,
+}
+
+// What can be wrong, with its refusal, in the order in which it is answered.
+const REFUSALS: [(Wrong, (u8, u64)); 5] = [
+    (Wrong::PlaceOutside, (8, 1)),
+    (Wrong::DayOutside, (8, 2)),
+    (Wrong::SupplierZero, (8, 3)),
+    (Wrong::HoldersCut, (13, 1)),
+    (Wrong::HoldersFull, (21, 3)),
+];
 
 // Two are held. A refused register changes neither the table nor what the book holds, so that the next can go behind them.
-fn attempt(rt: &impl Abort, wrong: Wrong) -> Result<Refusal, Fail> {
+// What is wrong last is done first, so that what is wrong first stands.
+fn attempt(rt: &impl Abort, one: Option<Wrong>, other: Option<Wrong>) -> Result<Refusal, Fail> {
     let mut book = open()?;
     let mut holders = [NOBODY; 3];
     assert_eq!(rt; register(&mut book, &mut holders, 3, 0, 0, 101), None);
     assert_eq!(rt; register(&mut book, &mut holders, 3, 1, 0, 102), None);
     let before = holders;
-    let place = if wrong.has(0) { 2 } else { 1 };
-    let day = if wrong.has(1) { 3 } else { 2 };
-    let supplier = if wrong.has(2) { 0 } else { 103 };
-    let room = wrong.room(3, 4, [1, 2, 3]);
+    let (mut room, mut place, mut day, mut supplier) = (3, 1, 2, 103);
+    for wrong in [other, one].into_iter().flatten() {
+        match wrong {
+            Wrong::PlaceOutside => place = 2,
+            Wrong::DayOutside => day = 3,
+            Wrong::SupplierZero => supplier = 0,
+            Wrong::HoldersCut => room = 1,
+            Wrong::HoldersFull => room = 2,
+        }
+    }
     let answer = register(&mut book, &mut holders, room, place, day, supplier);
     if answer.is_some() {
-        assert!(rt; same(&holders, &before));
+        assert!(rt; holders == before);
         assert_eq!(rt; register(&mut book, &mut holders, 3, 1, 2, 103), None);
     }
-    assert!(rt; same(&holders, &[put(0, 0, 101), put(1, 0, 102), put(1, 2, 103)]));
+    assert!(rt; holders == [put(0, 0, 101), put(1, 0, 102), put(1, 2, 103)]);
     Ok(answer)
 }
 
 #[test]
 fn of_two_the_first_is_answered(rt: HostRuntime) -> Result<(), Fail> {
-    assert_eq!(rt; attempt(&rt, Wrong::NOTHING)?, None);
-    for (one, expected) in REFUSALS.iter().enumerate() {
-        for other in one..REFUSALS.len() {
-            assert_eq!(rt; attempt(&rt, Wrong { one, other })?, Some(*expected));
-        }
-    }
-    Ok(())
+    first_is_answered(&rt, &REFUSALS, |one, other| attempt(&rt, one, other))
 }

@@ -1,7 +1,7 @@
 // Schedules: 8, 9, 10, 13, 14, 15, 21, and the notice that confirms a receipt.
 use crate::helpers::{
-    IN_TIME, NO_ROW, NOBODY, Refusal, SEVENTY, Sending, THIRD_PLACE, Wrong, end, fixed, open,
-    register, same, schedule,
+    IN_TIME, NO_ROW, NOBODY, Refusal, SEVENTY, Sending, THIRD_PLACE, end, first_is_answered, fixed,
+    open, register, schedule,
 };
 use book::Book;
 use domain::{AllocationRow, Terms};
@@ -56,16 +56,18 @@ fn limits(rt: HostRuntime) -> Result<(), Fail> {
             expected
         );
     }
-    assert!(rt; holds(rows, 0, 1, 2) && holds(rows, 47, 48, 2));
-    assert!(rt; holds(rows, 48, 1, 1) && holds(rows, 95, 48, 1));
+    for (at, period, day) in [(0, 1, 2), (47, 48, 2), (48, 1, 1), (95, 48, 1)] {
+        assert_eq!(rt; rows.get(at).copied(), Some(put(period, day)));
+    }
     Ok(())
 }
 
-// Whether the row of a period, put for a day, stands at an index.
-fn holds(rows: &[Dated<AllocationRow>], at: usize, period: u8, day: u16) -> bool {
-    match rows.get(at) {
-        Some(dated) => dated.subject == period && dated.day == day && dated.entry == SEVENTY,
-        None => false,
+// The row of a period, put for a day.
+fn put(period: u8, day: u16) -> Dated<AllocationRow> {
+    Dated {
+        subject: period,
+        day,
+        entry: SEVENTY,
     }
 }
 
@@ -134,9 +136,8 @@ fn with_row(rt: &impl Abort, at: usize, row: AllocationRow) -> Result<Refusal, F
     let mut rows = [NO_ROW; 48];
     assert_eq!(rt; register(&mut book, &mut holders, 1, 0, 0, 101), None);
     let mut list = [SEVENTY; 48];
-    if at < 48 {
-        list[at] = row;
-    }
+    let exchanged = list.get_mut(at).ok_or("no such row")?;
+    *exchanged = row;
     Ok(schedule(&mut book, &holders, &mut rows, IN_TIME, &list))
 }
 
@@ -182,7 +183,9 @@ fn rooms(rt: HostRuntime) -> Result<(), Fail> {
             expected
         );
     }
-    assert!(rt; holds(rows, 0, 1, 0) && holds(rows, 95, 48, 1) && !holds(rows, 96, 1, 0));
+    for (at, expected) in [(0, put(1, 0)), (95, put(48, 1)), (96, NO_ROW)] {
+        assert_eq!(rt; rows.get(at).copied(), Some(expected));
+    }
     Ok(())
 }
 
@@ -220,43 +223,40 @@ fn holders_and_the_end(rt: HostRuntime) -> Result<(), Fail> {
     Ok(())
 }
 
-// Of what can be wrong, the refusal, in the order in which it is answered.
-const REFUSALS: [(u8, u64); 11] = [
-    (8, 1),
-    (8, 2),
-    (8, 4),
-    (9, 5),
-    (10, 4_260),
-    (13, 1),
-    (13, 1),
-    (13, 2),
-    (14, 2),
-    (15, 1),
-    (21, 96),
+// What can be wrong with a schedule.
+#[derive(Clone, Copy)]
+enum Wrong {
+    SenderZero,
+    DayOutside,
+    RowMissing,
+    RowsUnlawful,
+    TooLate,
+    HoldersCut,
+    HolderSpoiled,
+    RowsCut,
+    AnotherSender,
+    AlreadyEnded,
+    RowsFull,
+}
+
+// What can be wrong, with its refusal, in the order in which it is answered.
+const REFUSALS: [(Wrong, (u8, u64)); 11] = [
+    (Wrong::SenderZero, (8, 1)),
+    (Wrong::DayOutside, (8, 2)),
+    (Wrong::RowMissing, (8, 4)),
+    (Wrong::RowsUnlawful, (9, 5)),
+    (Wrong::TooLate, (10, 4_260)),
+    (Wrong::HoldersCut, (13, 1)),
+    (Wrong::HolderSpoiled, (13, 1)),
+    (Wrong::RowsCut, (13, 2)),
+    (Wrong::AnotherSender, (14, 2)),
+    (Wrong::AlreadyEnded, (15, 1)),
+    (Wrong::RowsFull, (21, 96)),
 ];
 
-fn sending(wrong: Wrong) -> Sending {
-    let primary = if wrong.has(8) { 102 } else { 101 };
-    Sending {
-        sender: if wrong.has(0) { 0 } else { primary },
-        day: if wrong.has(1) { 3 } else { 2 },
-        moment: if wrong.has(4) { 5_701 } else { 4_260 },
-        count: if wrong.has(2) { 47 } else { 48 },
-        room: wrong.room(7, 10, [47, 95, 96]),
-    }
-}
-
-fn listed(wrong: Wrong) -> [AllocationRow; 48] {
-    let mut list = [SEVENTY; 48];
-    if wrong.has(3) {
-        list[4] = THIRD_PLACE;
-        list[30] = fixed(61);
-    }
-    list
-}
-
 // The rows of day 0 are held. A refused schedule leaves the table of rows as it was.
-fn attempt(rt: &impl Abort, wrong: Wrong) -> Result<Refusal, Fail> {
+// What is wrong last is done first, so that what is wrong first stands.
+fn attempt(rt: &impl Abort, one: Option<Wrong>, other: Option<Wrong>) -> Result<Refusal, Fail> {
     let mut book = open()?;
     let mut holders = [NOBODY; 1];
     let mut rows = [NO_ROW; 96];
@@ -270,34 +270,37 @@ fn attempt(rt: &impl Abort, wrong: Wrong) -> Result<Refusal, Fail> {
         schedule(&mut book, &holders, &mut rows, first, &[SEVENTY; 48]),
         None
     );
-    if wrong.has(9) {
-        assert_eq!(rt; end(&mut book, &holders, 1, 101, 1, 0), None);
-    }
-    if wrong.has(6) {
-        holders[0].entry = 0;
-    }
-    let lent = if wrong.has(5) { 0 } else { 1 };
     let before = rows;
-    let answer = schedule(
-        &mut book,
-        &holders[0..lent],
-        &mut rows,
-        sending(wrong),
-        &listed(wrong),
-    );
-    assert!(rt; answer.is_none() || same(&rows, &before));
+    let (mut lent, mut sent, mut list) = (1, IN_TIME, [SEVENTY; 48]);
+    for wrong in [other, one].into_iter().flatten() {
+        match wrong {
+            Wrong::SenderZero => sent.sender = 0,
+            Wrong::DayOutside => sent.day = 3,
+            Wrong::RowMissing => sent.count = 47,
+            Wrong::RowsUnlawful => {
+                list[4] = THIRD_PLACE;
+                list[30] = fixed(61);
+            }
+            Wrong::TooLate => sent.moment = 5_701,
+            Wrong::HoldersCut => lent = 0,
+            Wrong::HolderSpoiled => holders[0].entry = 0,
+            Wrong::RowsCut => sent.room = 47,
+            Wrong::AnotherSender => sent.sender = 102,
+            Wrong::AlreadyEnded => {
+                assert_eq!(rt; end(&mut book, &holders, 1, 101, 1, 0), None);
+            }
+            Wrong::RowsFull => sent.room = 95,
+        }
+    }
+    let held = &holders[..holders.len().min(lent)];
+    let answer = schedule(&mut book, held, &mut rows, sent, &list);
+    assert!(rt; answer.is_none() || rows == before);
     Ok(answer)
 }
 
 #[test]
 fn of_two_the_first_is_answered(rt: HostRuntime) -> Result<(), Fail> {
-    assert_eq!(rt; attempt(&rt, Wrong::NOTHING)?, None);
-    for (one, expected) in REFUSALS.iter().enumerate() {
-        for other in one..REFUSALS.len() {
-            assert_eq!(rt; attempt(&rt, Wrong { one, other })?, Some(*expected));
-        }
-    }
-    Ok(())
+    first_is_answered(&rt, &REFUSALS, |one, other| attempt(&rt, one, other))
 }
 
 // The notice of a schedule for a day by a sender at a moment, in a book of 62 days.

@@ -53,6 +53,6 @@ fn read_back(rt: HostRuntime) -> Result<(), Fail> {
     assert_eq!(rt; open()?.statement(&[], 0, 0, &mut out)?, 8);
     let statement = read_statement(&out[0..8])?;
     assert_eq!(rt; statement.count, 0);
-    assert!(rt; statement.line(0).is_none());
+    assert!(rt; statement.records.get(0).is_none());
     Ok(())
 }

@@ -1,5 +1,5 @@
 // Volumes: 8, 11, 13.
-use crate::helpers::{Refusal, SENT, SLOTS, Wrong, open, refusal};
+use crate::helpers::{Refusal, SENT, SLOTS, first_is_answered, number_and_spot, open, refusal};
 use book::Book;
 use domain::Slot;
 use rules::House;
@@ -42,134 +42,77 @@ fn limits(rt: HostRuntime) -> Result<(), Fail> {
     Ok(())
 }
 
-// What a slot holds, and what is answered: a pair or none, or a refusal.
-const ANSWERS: [(Slot, Option<(u32, u32)>, Refusal); 10] = [
-    (
-        Slot {
-            supplier: 0,
-            volume: 0,
-        },
-        None,
-        None,
-    ),
-    (
-        Slot {
-            supplier: 101,
-            volume: 0,
-        },
-        Some((0, 0)),
-        None,
-    ),
-    (
-        Slot {
-            supplier: 101,
-            volume: 21,
-        },
-        Some((21, 0)),
-        None,
-    ),
-    (
-        Slot {
-            supplier: 101,
-            volume: -10,
-        },
-        Some((0, 10)),
-        None,
-    ),
-    (
-        Slot {
-            supplier: 1,
-            volume: 9_999_999,
-        },
-        Some((9_999_999, 0)),
-        None,
-    ),
-    (
-        Slot {
-            supplier: 65_535,
-            volume: -9_999_999,
-        },
-        Some((0, 9_999_999)),
-        None,
-    ),
-    (
-        Slot {
-            supplier: 101,
-            volume: 10_000_000,
-        },
-        None,
-        Some((13, 4)),
-    ),
-    (
-        Slot {
-            supplier: 101,
-            volume: -10_000_000,
-        },
-        None,
-        Some((13, 4)),
-    ),
-    (
-        Slot {
-            supplier: 0,
-            volume: 1,
-        },
-        None,
-        Some((13, 4)),
-    ),
-    (
-        Slot {
-            supplier: 0,
-            volume: -1,
-        },
-        None,
-        Some((13, 4)),
-    ),
+// What is answered: a pair or none, or a refusal's number and spot.
+type Answer = Result<Option<(u32, u32)>, (u8, u64)>;
+
+// The supplier and the volume that a slot holds, and what is answered.
+const ANSWERS: [(u16, i32, Answer); 10] = [
+    (0, 0, Ok(None)),
+    (101, 0, Ok(Some((0, 0)))),
+    (101, 21, Ok(Some((21, 0)))),
+    (101, -10, Ok(Some((0, 10)))),
+    (1, 9_999_999, Ok(Some((9_999_999, 0)))),
+    (65_535, -9_999_999, Ok(Some((0, 9_999_999)))),
+    (101, 10_000_000, Err((13, 4))),
+    (101, -10_000_000, Err((13, 4))),
+    (0, 1, Err((13, 4))),
+    (0, -1, Err((13, 4))),
 ];
 
 // The slot of place 1 in period 3 of day 1; all others are spoiled, and not read.
-fn answer(slot: Slot) -> Result<(Option<(u32, u32)>, Refusal), Fail> {
+fn answer(slot: Slot) -> Result<Answer, Fail> {
     let mut issued = [Slot {
         supplier: 0,
         volume: i32::MIN,
     }; SLOTS];
     issued[101] = slot;
-    match open()?.volume(&issued, 1, 3, 1) {
-        Ok(pair) => Ok((pair, None)),
-        Err(fault) => Ok((None, Some((fault.number(), fault.spot())))),
-    }
+    Ok(open()?.volume(&issued, 1, 3, 1).map_err(number_and_spot))
 }
 
 #[test]
 fn pairs(rt: HostRuntime) -> Result<(), Fail> {
-    for (slot, pair, expected) in ANSWERS {
-        assert_eq!(rt; answer(slot)?, (pair, expected));
+    for (supplier, volume, expected) in ANSWERS {
+        assert_eq!(rt; answer(Slot { supplier, volume })?, expected);
     }
     Ok(())
 }
 
-// Of what can be wrong, the refusal, in the order in which it is answered.
-const REFUSALS: [(u8, u64); 5] = [(8, 1), (8, 2), (8, 3), (11, 4), (13, 4)];
+// What can be wrong where a volume is asked for.
+#[derive(Clone, Copy)]
+enum Wrong {
+    DayOutside,
+    PeriodOutside,
+    PlaceOutside,
+    SlotsCut,
+    SlotsSpoiled,
+}
 
-fn attempt(wrong: Wrong) -> Result<Refusal, Fail> {
-    let supplier = if wrong.has(4) { 0 } else { 101 };
-    let issued = [Slot {
-        supplier,
-        volume: 21,
-    }; SLOTS];
-    let day = if wrong.has(0) { 3 } else { 2 };
-    let period = if wrong.has(1) { 49 } else { 5 };
-    let place = if wrong.has(2) { 2 } else { 1 };
-    let room = if wrong.has(3) { SLOTS - 1 } else { SLOTS };
-    Ok(ask(&open()?, &issued, room, day, period, place))
+// What can be wrong, with its refusal, in the order in which it is answered.
+const REFUSALS: [(Wrong, (u8, u64)); 5] = [
+    (Wrong::DayOutside, (8, 1)),
+    (Wrong::PeriodOutside, (8, 2)),
+    (Wrong::PlaceOutside, (8, 3)),
+    (Wrong::SlotsCut, (11, 4)),
+    (Wrong::SlotsSpoiled, (13, 4)),
+];
+
+// What is wrong last is done first, so that what is wrong first stands.
+fn attempt(one: Option<Wrong>, other: Option<Wrong>) -> Result<Refusal, Fail> {
+    let (mut slot, mut room) = (SENT, SLOTS);
+    let (mut day, mut period, mut place) = (2, 5, 1);
+    for wrong in [other, one].into_iter().flatten() {
+        match wrong {
+            Wrong::DayOutside => day = 3,
+            Wrong::PeriodOutside => period = 49,
+            Wrong::PlaceOutside => place = 2,
+            Wrong::SlotsCut => room = SLOTS - 1,
+            Wrong::SlotsSpoiled => slot.supplier = 0,
+        }
+    }
+    Ok(ask(&open()?, &[slot; SLOTS], room, day, period, place))
 }
 
 #[test]
 fn of_two_the_first_is_answered(rt: HostRuntime) -> Result<(), Fail> {
-    assert_eq!(rt; attempt(Wrong::NOTHING)?, None);
-    for (one, expected) in REFUSALS.iter().enumerate() {
-        for other in one..REFUSALS.len() {
-            assert_eq!(rt; attempt(Wrong { one, other })?, Some(*expected));
-        }
-    }
-    Ok(())
+    first_is_answered(&rt, &REFUSALS, attempt)
 }

@@ -1,7 +1,6 @@
 -- The calls of the day, one after the other.
-use Rattle.std.proofs.Common.{◌≡◌, ℕ, ◌+◌, List, [], ◌∷◌, ◌++◌, take, drop, IfOk, Some, None, Ok, Err, Result, sym, refl, ap, ◌∙◌, subst, arith}
+use Rattle.std.proofs.Common.{◌≡◌, ℕ, List, [], ◌∷◌, ◌++◌, take, IfOk, Ok, Err, Result, sym, refl, ap, ◌∙◌, subst, arith}
 use Rattle.dayrun.specs.Texts.{answer_text}
-use Rattle.std.specs.List.{slice_get}
 use Rattle.domain.specs.Checks.{and_then, settled}
 use Rattle.domain.specs.declared.Fault.{Fault}
 use Rattle.domain.specs.declared.Reading.{Reading}
@@ -21,9 +20,8 @@ use Rattle.season.specs.Outcomes.{state_of}
 use Rattle.season.specs.Steps.{State}
 use Rattle.book.specs.Readings.{reading_answer, with_reading}
 use Rattle.dayrun.specs.Calls.{registering, scheduling, reading_all, issuing, day_sent}
-use Rattle.dayrun.proofs.Lists.{drop_nth, drop_none}
 
-module _ (t : Terms) (k : Kept) (table : List Reading) (xs : List ReadingRecord) (i : ℕ) where
+module _ (t : Terms) (k : Kept) (table : List Reading) where
   unfold_one : (r : ReadingRecord) (rs : List ReadingRecord) → reading_all t k table (r ∷ rs) ≡ and_then (reading_answer t k table r.day r.period r.quality r.kwh) (λ _. reading_all t k (with_reading table r.day r.period r.quality r.kwh) rs)
   unfolding reading_all
   unfold_one r rs = refl
@@ -33,23 +31,21 @@ module _ (t : Terms) (k : Kept) (table : List Reading) (xs : List ReadingRecord)
   unfold_none = refl
 
   -- one more reading is accepted
-  pub reading_more : (r : ReadingRecord) {after : List Reading} {all : Result (List Reading) Fault} → slice_get xs i ≡ Some r → reading_all t k table (drop i xs) ≡ all → Ok tt ≡ reading_answer t k table r.day r.period r.quality r.kwh → after ≡ with_reading table r.day r.period r.quality r.kwh → reading_all t k after (drop (i + 1) xs) ≡ all
-  reading_more r {after} {all} e so ok is =
-      let rest = drop (i + 1) xs in
+  pub reading_more : (left rest : List ReadingRecord) (r : ReadingRecord) {after : List Reading} {all : Result (List Reading) Fault} → left ≡ r ∷ rest → reading_all t k table left ≡ all → Ok tt ≡ reading_answer t k table r.day r.period r.quality r.kwh → after ≡ with_reading table r.day r.period r.quality r.kwh → reading_all t k after rest ≡ all
+  reading_more left rest r {after} {all} e so ok is =
       ap (λ x. reading_all t k x rest) is
       ∙ ap (λ x. and_then x (λ _. reading_all t k (with_reading table r.day r.period r.quality r.kwh) rest)) ok
-      ∙ sym (unfold_one r rest) ∙ ap (reading_all t k table) (sym (drop_nth xs i r e)) ∙ so
+      ∙ sym (unfold_one r rest) ∙ ap (reading_all t k table) (sym e) ∙ so
 
   -- one is refused
-  pub reading_stop : (r : ReadingRecord) {f : Fault} {all : Result (List Reading) Fault} → slice_get xs i ≡ Some r → reading_all t k table (drop i xs) ≡ all → Err f ≡ reading_answer t k table r.day r.period r.quality r.kwh → Err f ≡ all
-  reading_stop r {f} {all} e so stops =
-      let rest = drop (i + 1) xs in
+  pub reading_stop : (left rest : List ReadingRecord) (r : ReadingRecord) {f : Fault} {all : Result (List Reading) Fault} → left ≡ r ∷ rest → reading_all t k table left ≡ all → Err f ≡ reading_answer t k table r.day r.period r.quality r.kwh → Err f ≡ all
+  reading_stop left rest r {f} {all} e so stops =
       ap (λ x. and_then x (λ _. reading_all t k (with_reading table r.day r.period r.quality r.kwh) rest)) stops
-      ∙ sym (unfold_one r rest) ∙ ap (reading_all t k table) (sym (drop_nth xs i r e)) ∙ so
+      ∙ sym (unfold_one r rest) ∙ ap (reading_all t k table) (sym e) ∙ so
 
   -- none is left
-  pub reading_end : {all : Result (List Reading) Fault} → slice_get xs i ≡ None → reading_all t k table (drop i xs) ≡ all → Ok table ≡ all
-  reading_end e so = sym unfold_none ∙ ap (reading_all t k table) (sym (drop_none xs i e)) ∙ so
+  pub reading_end : (left : List ReadingRecord) {all : Result (List Reading) Fault} → left ≡ [] → reading_all t k table left ≡ all → Ok table ≡ all
+  reading_end left e so = sym unfold_none ∙ ap (reading_all t k table) (sym e) ∙ so
 
 bind : {A B : Type 0} {x y : Result A Fault} (next : A → Result B Fault) → x ≡ y → and_then x next ≡ and_then y next
 bind next e = ap (λ z. and_then z next) e

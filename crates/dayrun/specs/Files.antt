@@ -1,10 +1,10 @@
 -- What is read of the input: a schedule file, and behind it a readings file.
-use Rattle.std.specs.Prelude.{ℕ, ◌/◌, cond, List, length, take, drop, Ok, Err, Result, ◌==◌, slice_index}
+use Rattle.std.specs.Prelude.{ℕ, cond, List, take, drop, Ok, Err, Result, ◌==◌, slice_index}
 use Rattle.domain.specs.Checks.{and_then}
 use Rattle.domain.specs.declared.Fault.{Fault}
 use Rattle.domain.specs.declared.Fault.TheVariants.{AnotherKind}
 use Rattle.domain.specs.declared.AllocationRow.{AllocationRow}
-use Rattle.files.specs.Bytes.{unpacked}
+use Rattle.files.specs.Bytes.{records_in}
 use Rattle.files.specs.Formats.{kind_of}
 use Rattle.files.specs.Reads.{Told, opened, by_kind}
 use Rattle.files.specs.Records.{row_size, decoded_row, reading_size, decoded_reading}
@@ -20,11 +20,11 @@ schedule_bytes = 1648
 
 -- all rows that bytes hold
 abbrev pub rows_in : List ℕ → List AllocationRow
-rows_in bs = unpacked decoded_row row_size (length bs / row_size) bs
+rows_in bs = records_in decoded_row row_size bs
 
 -- all readings that bytes hold
 abbrev pub readings_in : List ℕ → List ReadingRecord
-readings_in bs = unpacked decoded_reading reading_size (length bs / reading_size) bs
+readings_in bs = records_in decoded_reading reading_size bs
 
 -- the two files that were read
 pub record Files : Type 0 where

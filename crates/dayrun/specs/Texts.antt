@@ -3,7 +3,7 @@ use Rattle.std.specs.Prelude.{ℕ, List, ◌++◌, Ok, Err, codes, decimal, Resu
 use Rattle.std.specs.Fmt.{signed_decimal}
 use Rattle.std.specs.List.{flat_map}
 use Rattle.domain.specs.Checks.{and_then}
-use Rattle.domain.specs.Refusals.{refused}
+use Rattle.domain.specs.Texts as domain
 use Rattle.domain.specs.declared.Fault.{Fault}
 use Rattle.domain.specs.declared.Line.{Line}
 use Rattle.dayrun.specs.Files.{Files, files_read, sender_of, day_of, moment_of, rows_in, readings_in}
@@ -15,7 +15,7 @@ line_text l = decimal l.period ++ (codes " " ++ (decimal l.place ++ (codes " " +
 
 -- a refusal: its number and spot
 abbrev pub refusal_text : Fault → List ℕ
-refusal_text fault = codes "refused " ++ (decimal (refused fault).0 ++ (codes " " ++ (decimal (refused fault).1 ++ codes "\n")))
+refusal_text fault = domain.refusal_text fault ++ codes "\n"
 
 -- the lines that were sent, or only the refusal
 abbrev pub answer_text : Result (List Line) Fault → List ℕ

@@ -1,21 +1,22 @@
 // One day of a site with two suppliers: a schedule and its readings in, the lines that are sent out.
 #![tactic(auto)]
 
-ghost use Rattle.std.specs.Prelude.{◌≡◌, ◌++◌, take, drop, IfOk, string_bytes, OnOk};
+ghost use Rattle.std.specs.Prelude.{◌≡◌, ◌++◌, take, IfOk, string_bytes, OnOk};
 ghost use Rattle.std.specs.List.{flat_map};
 ghost use Rattle.files.specs.Reads.{seen_by};
 ghost use Rattle.book.specs.Kept.{kept, opened};
-ghost use Rattle.season.specs.Outcomes.{state_of};
+ghost use Rattle.season.specs.Outcomes.{state_in};
 ghost use Rattle.dayrun.specs.Files.{rows_in, readings_in, files_read};
 ghost use Rattle.dayrun.specs.Calls.{reading_all, day_sent, site_terms, start};
 ghost use Rattle.dayrun.specs.Texts.{line_text, refusal_text, answer_text, day_text};
 ghost use Rattle.dayrun.specs.Seen.{files_seen};
 
 use book::Book;
-use domain::{AllocationRow, Fault, Line, Reading, Slot, Terms};
-use files::{ReadingRecord, ReadingsFile, ScheduleFile, read_readings, read_schedule};
+use domain::{AllocationRow, Fault, Line, PERIODS, Reading, Slot, Terms};
+use files::{Intro, ReadingRecord, ReadingsFile, ScheduleFile, read_readings, read_schedule};
 use history::Dated;
 use rules::House;
+use season::Tables;
 use std::alloc::{AllocError, Global};
 
 // The most bytes of input that are read.
@@ -35,30 +36,14 @@ const FIRST_SUPPLIER: u16 = 101;
 
 const SECOND_SUPPLIER: u16 = 102;
 
-const NO_HOLDER: Dated<u16> = Dated {
-    subject: 0,
-    day: 0,
-    entry: 0,
-};
+// A slot for each Settlement Period of the day.
+const PERIOD_SLOTS: usize = PERIODS as usize;
 
-const NO_ROW: Dated<AllocationRow> = Dated {
-    subject: 0,
-    day: 0,
-    entry: AllocationRow {
-        method: 0,
-        balance: 0,
-        nominations: [0; 8],
-    },
-};
+// A slot for each place and Settlement Period of the day.
+const PLACE_SLOTS: usize = 2 * PERIOD_SLOTS;
 
-const NO_LINE: Line = Line {
-    day: 0,
-    period: 0,
-    place: 0,
-    supplier: 0,
-    run: 0,
-    volume: 0,
-};
+// Room for two lines of each place and Settlement Period.
+const JOURNAL_LINES: usize = 2 * PLACE_SLOTS;
 
 // The two files of a day.
 #[derive(Clone, Copy)]
@@ -71,45 +56,18 @@ struct DayFiles<'a> {
 fn read_day(input: &[u8]) -> Result<DayFiles<'_>, Fault>
     ensures { seen_by files_seen result ≡ files_read input.now }
 {
-    let input = start_of(input, MAX_INPUT);
-    let schedule = read_schedule(start_of(input, SCHEDULE_BYTES))?;
-    let readings = read_readings(rest_of(input, SCHEDULE_BYTES))?;
+    let (input, _) = input.split_at(input.len().min(MAX_INPUT));
+    let (schedule, readings) = input.split_at(input.len().min(SCHEDULE_BYTES));
+    let schedule = read_schedule(schedule)?;
+    let readings = read_readings(readings)?;
     Ok(DayFiles { schedule, readings })
-}
-
-// The first bytes, so many at most.
-fn start_of(bytes: &[u8], most: usize) -> &[u8]
-    ensures { result.now ≡ take most bytes.now }
-{
-    if bytes.len() <= most {
-        bytes
-    } else {
-        &bytes[..most]
-    }
-}
-
-// The bytes behind them.
-fn rest_of(bytes: &[u8], most: usize) -> &[u8]
-    ensures { result.now ≡ drop most bytes.now }
-{
-    if bytes.len() <= most {
-        &[]
-    } else {
-        &bytes[most..]
-    }
 }
 
 // The rows of a schedule file.
 fn schedule_rows(heap: Global, file: ScheduleFile<'_>) -> Result<Vec<AllocationRow>, AllocError>
-    ensures { IfOk result (λ v. v.items ≡ rows_in file.entry.rows.now) }
+    ensures { IfOk result (λ v. v.items ≡ rows_in file.entry.rows.bytes.now) }
 {
-    let mut rows = Vec::new(heap);
-    let mut index = 0;
-    while let Some(row) = file.row(index) {
-        rows.push(row)?;
-        index += 1;
-    }
-    Ok(rows)
+    file.rows.iter().collect(heap)
 }
 
 // Puts the readings of a file, one after the other, up to the first that is refused.
@@ -118,10 +76,9 @@ fn put_readings(
     table: &mut [Reading],
     file: ReadingsFile<'_>,
 ) -> Result<(), Fault>
-    ensures { seen_by (λ _. table.new) result ≡ reading_all book.now.terms (kept book.now) table.old (readings_in file.entry.records.now) }
+    ensures { seen_by (λ _. table.new) result ≡ reading_all book.now.terms (kept book.now) table.old (readings_in file.entry.records.bytes.now) }
 {
-    let mut index = 0;
-    while let Some(reading) = file.reading(index) {
+    for reading in file.records.iter() {
         let ReadingRecord {
             day,
             period,
@@ -129,29 +86,28 @@ fn put_readings(
             kwh,
         } = reading;
         book.reading(table, day, period, quality, kwh)?;
-        index += 1;
     }
     Ok(())
 }
 
 // Runs the day on a new book and blank tables, and answers how many lines it sent to the journal.
 fn run_day(
-    holders: &mut [Dated<u16>],
-    rows: &mut [Dated<AllocationRow>],
-    readings: &mut [Reading],
-    issued: &mut [Slot],
-    journal: &mut [Line],
+    tables: &mut Tables<'_>,
     files: DayFiles<'_>,
     schedule: &[AllocationRow],
 ) -> Result<usize, Fault>
-    ensures { seen_by (λ sent. take sent journal.new) result ≡ day_sent site_terms (state_of opened holders.old rows.old readings.old issued.old journal.old) files.entry.schedule.sender files.entry.schedule.day files.entry.schedule.moment schedule.now (readings_in files.entry.readings.records.now) }
+    ensures { seen_by (λ sent. take sent tables.new.journal.now) result ≡ day_sent site_terms (state_in opened tables.old) files.entry.schedule.intro.sender files.entry.schedule.intro.day files.entry.schedule.intro.moment schedule.now (readings_in files.entry.readings.records.bytes.now) }
 {
-    let ScheduleFile {
+    let Intro {
         sender,
         day,
         moment,
-        ..
-    } = files.schedule;
+    } = files.schedule.intro;
+    let holders = &mut *tables.holders;
+    let rows = &mut *tables.rows;
+    let readings = &mut *tables.readings;
+    let issued = &mut *tables.issued;
+    let journal = &mut *tables.journal;
     let mut book = Book::open(SITE, House);
     book.register(holders, 0, 0, FIRST_SUPPLIER)?;
     book.register(holders, 1, 0, SECOND_SUPPLIER)?;
@@ -161,35 +117,27 @@ fn run_day(
     book.issue(holders, rows, readings, issued, journal, 0, 1)
 }
 
-// Adds a refusal to the text.
+// Adds a refusal to the text. The functions from here on choose what is printed; a fault or a line prints by `write!`.
 fn put_refusal(text: &mut String, fault: Fault) -> Result<(), AllocError>
     ensures { OnOk result (string_bytes text.new ≡ string_bytes text.old ++ refusal_text fault) }
 {
-    let number = fault.number();
-    let spot = fault.spot();
-    write!(text, "refused {number} {spot}\n")
-}
-
-// Adds a line to the text.
-fn put_line(text: &mut String, line: Line) -> Result<(), AllocError>
-    ensures { OnOk result (string_bytes text.new ≡ string_bytes text.old ++ line_text line) }
-{
-    let Line {
-        period,
-        place,
-        supplier,
-        volume,
-        ..
-    } = line;
-    write!(text, "{period} {place} {supplier} {volume}\n")
+    write!(text, "{fault}\n")
 }
 
 // Adds the first lines of a journal to the text, so many at most.
 fn put_lines(text: &mut String, journal: &[Line], sent: usize) -> Result<(), AllocError>
     ensures { OnOk result (string_bytes text.new ≡ string_bytes text.old ++ flat_map line_text (take sent journal.now)) }
 {
-    for index in 0..sent.min(journal.len()) {
-        put_line(text, journal[index])?;
+    let lines = &journal[..journal.len().min(sent)];
+    for line in lines {
+        let Line {
+            period,
+            place,
+            supplier,
+            volume,
+            ..
+        } = *line;
+        write!(text, "{period} {place} {supplier} {volume}\n")?;
     }
     Ok(())
 }
@@ -214,23 +162,22 @@ fn put_day(
     files: DayFiles<'_>,
     schedule: &[AllocationRow],
 ) -> Result<(), AllocError>
-    ensures { OnOk result (string_bytes text.new ≡ string_bytes text.old ++ answer_text (day_sent site_terms start files.entry.schedule.sender files.entry.schedule.day files.entry.schedule.moment schedule.now (readings_in files.entry.readings.records.now))) }
+    ensures { OnOk result (string_bytes text.new ≡ string_bytes text.old ++ answer_text (day_sent site_terms start files.entry.schedule.intro.sender files.entry.schedule.intro.day files.entry.schedule.intro.moment schedule.now (readings_in files.entry.readings.records.bytes.now))) }
 {
-    let mut holders = [NO_HOLDER; 2];
-    let mut rows = [NO_ROW; 48];
-    let mut readings = [Reading::NONE; 48];
-    let mut issued = [Slot::NONE; 96];
-    let mut journal = [NO_LINE; 192];
-    let answer = run_day(
-        &mut holders,
-        &mut rows,
-        &mut readings,
-        &mut issued,
-        &mut journal,
-        files,
-        schedule,
-    );
-    put_answer(text, &journal, answer)
+    let mut holders = [Dated::blank(0); 2];
+    let mut rows = [Dated::blank(AllocationRow::NONE); PERIOD_SLOTS];
+    let mut readings = [Reading::NONE; PERIOD_SLOTS];
+    let mut issued = [Slot::NONE; PLACE_SLOTS];
+    let mut journal = [Line::NONE; JOURNAL_LINES];
+    let mut tables = Tables {
+        holders: &mut holders,
+        rows: &mut rows,
+        readings: &mut readings,
+        issued: &mut issued,
+        journal: &mut journal,
+    };
+    let answer = run_day(&mut tables, files, schedule);
+    put_answer(text, tables.journal, answer)
 }
 
 // What is printed for an input: the lines of its day, or only its refusal. It fails only for want of memory.

@@ -4,7 +4,7 @@
 #[cfg(test)]
 mod tests {
     use dayrun::split_day;
-    use domain::AllocationRow;
+    use domain::{AllocationRow, PERIODS, Quality};
     use files::{ReadingRecord, write_readings, write_schedule};
     use std::process::Abort;
     use std::test::Fail;
@@ -26,7 +26,7 @@ mod tests {
     const NOTHING: ReadingRecord = ReadingRecord {
         day: 0,
         period: 1,
-        quality: 2,
+        quality: Quality::Actual as u8,
         kwh: 0,
     };
 
@@ -35,10 +35,8 @@ mod tests {
         let mut rows = [PERCENTAGE; 48];
         rows[12] = row;
         let mut readings = [NOTHING; 48];
-        let mut period: u8 = 1;
-        for reading in readings.iter_mut() {
+        for (period, reading) in (1..=PERIODS).zip(readings.iter_mut()) {
             reading.period = period;
-            period = period.saturating_add(1);
         }
         readings[12].kwh = kwh;
         let mut input = [0; 2_040];

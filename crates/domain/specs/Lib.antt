@@ -4,3 +4,5 @@ pub mod Slots
 pub mod Termed
 pub mod Checks
 pub mod Lines
+pub mod Numbers
+pub mod Texts

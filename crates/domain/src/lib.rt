@@ -1,15 +1,21 @@
 // What every layer speaks of: the limits of the subject, the refusals and the plain records.
 #![tactic(auto)]
 
-ghost use Rattle.std.specs.Prelude.{◌≡◌, ◌+◌, ◌-◌, ◌*◌, Ok, Err};
+ghost use Rattle.std.specs.Prelude.{◌≡◌, ◌+◌, ◌-◌, ◌*◌, Some, Ok, Err, length, ◌==◌};
 ghost use Rattle.domain.specs.Refusals.{refused, number_of_table, number_of_term};
 ghost use Rattle.domain.specs.declared.Table.TheVariants.{Readings, Issued};
 ghost use Rattle.domain.specs.declared.Fault.TheVariants.{ArgumentOutsideLimits, AnotherSize};
 ghost use Rattle.domain.specs.Checks.{unless, is_day, is_place, is_period, is_quality, spoiled_reading, spoiled_slot, no_reading, no_volume, readings_fit, issued_fit};
 ghost use Rattle.domain.specs.Slots.{reading_slot, issued_slot, gate, reading_slots, issued_slots};
+ghost use Rattle.domain.specs.Texts.{refusal_text, line_text};
 
+use std::error::Error;
+use std::fmt;
+
+mod numbers;
 mod terms;
 
+pub use numbers::{Quality, Run, UnknownNumber};
 pub use terms::Terms;
 
 // Settlement Periods in a day, numbered from 1.
@@ -71,7 +77,7 @@ pub fn gate(day: u16) -> u32
     u32::from(day) * 1_440 + 1_380
 }
 
-// One row of a schedule: how the energy of one Settlement Period is split.
+// One row of a schedule, as tables and files store it: how the energy of one Settlement Period is split, by the number of a method.
 #[derive(Clone, Copy, PartialEq, Eq, Debug)]
 pub struct AllocationRow {
     pub method: u8,
@@ -79,7 +85,16 @@ pub struct AllocationRow {
     pub nominations: [u32; NOMINATIONS],
 }
 
-// The metered energy of one Settlement Period, with its quality: 1 estimated, 2 actual, 0 in an empty slot.
+impl AllocationRow {
+    // A row of which nothing is set.
+    pub const NONE: AllocationRow = AllocationRow {
+        method: 0,
+        balance: 0,
+        nominations: [0; NOMINATIONS],
+    };
+}
+
+// The metered energy of one Settlement Period, as tables and files store it: with the number of its quality, or 0 in an empty slot.
 #[derive(Clone, Copy, PartialEq, Eq, Debug)]
 pub struct Reading {
     pub quality: u8,
@@ -94,11 +109,11 @@ impl Reading {
     pub fn is_spoiled(self) -> bool
         ensures { result ≡ spoiled_reading self }
     {
-        self.quality > 2 || self.kwh > MAX_KWH
+        self.quality != 0 && !is_quality(self.quality) || self.kwh > MAX_KWH
     }
 }
 
-// What was last issued for one place in one Settlement Period; supplier 0 in an empty slot.
+// What was last issued for one place in one Settlement Period, as tables store it: with supplier 0 in an empty slot.
 #[derive(Clone, Copy, PartialEq, Eq, Debug)]
 pub struct Slot {
     pub supplier: u16,
@@ -122,7 +137,7 @@ impl Slot {
     }
 }
 
-// One line of the journal: a volume that was sent to a supplier.
+// One line of the journal, as tables and files store it: a volume that was sent to a supplier, with the number of its run.
 #[derive(Clone, Copy, PartialEq, Eq, Debug)]
 pub struct Line {
     pub day: u16,
@@ -131,6 +146,34 @@ pub struct Line {
     pub supplier: u16,
     pub run: u8,
     pub volume: i32,
+}
+
+impl Line {
+    // A line that was not written.
+    pub const NONE: Line = Line {
+        day: 0,
+        period: 0,
+        place: 0,
+        supplier: 0,
+        run: 0,
+        volume: 0,
+    };
+}
+
+impl fmt::Display for Line {
+    ghost output = { λ line. Some (line_text line) };
+
+    fn fmt<W: fmt::Write>(&self, f: &mut fmt::Formatter<W>) -> fmt::Result {
+        let Line {
+            day,
+            period,
+            place,
+            supplier,
+            run,
+            volume,
+        } = *self;
+        write!(f, "{day} {period} {place} {supplier} {run} {volume}")
+    }
 }
 
 impl Terms {
@@ -152,26 +195,25 @@ impl Terms {
     pub fn fit_readings(self, readings: &[Reading]) -> Result<(), Fault>
         ensures { result ≡ unless (readings_fit self readings.now) (AnotherSize Readings) (Ok tt) }
     {
-        if readings.len() == reading_slots(self.days) {
-            Ok(())
-        } else {
-            Err(Fault::AnotherSize {
-                table: Table::Readings,
-            })
-        }
+        fit(readings, reading_slots(self.days), Table::Readings)
     }
 
     // Refuses a table of what was issued of another size than the terms give.
     pub fn fit_issued(self, issued: &[Slot]) -> Result<(), Fault>
         ensures { result ≡ unless (issued_fit self issued.now) (AnotherSize Issued) (Ok tt) }
     {
-        if issued.len() == issued_slots(self.places, self.days) {
-            Ok(())
-        } else {
-            Err(Fault::AnotherSize {
-                table: Table::Issued,
-            })
-        }
+        fit(issued, issued_slots(self.places, self.days), Table::Issued)
+    }
+}
+
+// Refuses a table that has not so many slots.
+fn fit<T>(slots: &[T], size: usize, table: Table) -> Result<(), Fault>
+    ensures { result ≡ unless (length slots.now == size) (AnotherSize table) (Ok tt) }
+{
+    if slots.len() == size {
+        Ok(())
+    } else {
+        Err(Fault::AnotherSize { table })
     }
 }
 
@@ -179,17 +221,17 @@ impl Terms {
 pub fn is_period(period: u8) -> bool
     ensures { result ≡ is_period period }
 {
-    1 <= period && period <= PERIODS
+    (1..=PERIODS).contains(&period)
 }
 
 // Whether a reading may have this quality: 1, estimated, or 2, actual.
 pub fn is_quality(quality: u8) -> bool
     ensures { result ≡ is_quality quality }
 {
-    1 <= quality && quality <= 2
+    Quality::try_from(quality).is_ok()
 }
 
-// Refuses an argument that is outside its limits, by its number.
+// Refuses an argument that is outside its limits, by its number. Each call counts its own arguments, so an enum would only name the numbers again.
 pub fn admit(argument: u8, within: bool) -> Result<(), Fault>
     ensures { result ≡ unless within (ArgumentOutsideLimits argument) (Ok tt) }
 {
@@ -209,6 +251,7 @@ pub enum Term {
 }
 
 impl Term {
+    // Its number, by which a refusal's spot names it: plainer to read at a call than a conversion.
     pub fn number(self) -> u8
         ensures { result ≡ number_of_term self }
     {
@@ -227,6 +270,7 @@ pub enum Table {
 }
 
 impl Table {
+    // Its number, by which a refusal's spot names it, as with a term.
     pub fn number(self) -> u8
         ensures { result ≡ number_of_table self }
     {
@@ -338,3 +382,15 @@ impl Fault {
         }
     }
 }
+
+impl fmt::Display for Fault {
+    ghost output = { λ fault. Some (refusal_text fault) };
+
+    fn fmt<W: fmt::Write>(&self, f: &mut fmt::Formatter<W>) -> fmt::Result {
+        let number = self.number();
+        let spot = self.spot();
+        write!(f, "refused {number} {spot}")
+    }
+}
+
+impl Error for Fault {}

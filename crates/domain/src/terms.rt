@@ -6,7 +6,7 @@ ghost use Rattle.domain.specs.Termed.{terms_fault};
 use super::{Fault, MAX_CAPACITY, MAX_DAYS, MAX_PLACES, MIN_PLACES, Term};
 
 // No terms outside the limits exist, so whoever is given terms need not test them.
-#[derive(Clone, Copy)]
+#[derive(Clone, Copy, PartialEq, Eq, Debug)]
 pub struct Terms {
     pub places: u8,
     pub days: u16,
@@ -24,10 +24,10 @@ impl Terms {
     pub fn new(places: u8, days: u16, capacity: u32) -> Result<Terms, Fault>
         ensures { MatchResult result (λ t. (terms_fault places days capacity ≡ None) × (t.places ≡ places) × (t.days ≡ days) × (t.capacity ≡ capacity)) (λ f. terms_fault places days capacity ≡ Some f) }
     {
-        if places < MIN_PLACES || places > MAX_PLACES {
+        if !(MIN_PLACES..=MAX_PLACES).contains(&places) {
             return Err(Fault::TermOutsideLimits { term: Term::Places });
         }
-        if days < 1 || days > MAX_DAYS {
+        if !(1..=MAX_DAYS).contains(&days) {
             return Err(Fault::TermOutsideLimits { term: Term::Days });
         }
         if capacity > MAX_CAPACITY {

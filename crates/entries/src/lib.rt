@@ -1,31 +1,33 @@
 // A half hour and its row, read from the words of a line: PERIOD KWH METHOD CAPACITY BALANCE NOMINATION…
 #![tactic(auto)]
 
-ghost use Rattle.std.specs.Prelude.{◌≡◌, ◌≤◌, drop, IfOk, Some};
+ghost use Rattle.std.specs.Prelude.{◌≡◌, drop, Some, alloc_error};
 ghost use Rattle.text.specs.Words.{words_of};
+ghost use Rattle.text.specs.Left.{words_left};
 ghost use Rattle.rules.specs.Agreed.{agreed};
+ghost use Rattle.entries.specs.declared.Fault.TheVariants.{Word};
 ghost use Rattle.entries.specs.declared.Unread.TheVariants.{Malformed, NoMemory};
 ghost use Rattle.entries.specs.Faults.{fault_text};
-ghost use Rattle.entries.specs.Fields.{word_number, number_in, period_in, energy_in};
+ghost use Rattle.entries.specs.Fields.{period_in, energy_in};
 ghost use Rattle.entries.specs.Held.{held};
 ghost use Rattle.entries.specs.Reading.{Reads, Gathers};
 
-use domain::{MAX_KWH, PERIODS};
+use domain::{MAX_KWH, is_period};
 use rules::Row;
-use std::alloc::{AllocFailed, Global};
+use std::alloc::{AllocError, AllocFailed, Global};
 use std::fmt;
-use text::{Misread, next_word, read_decimal};
+use text::{WordFault, Words, word};
 
 // A row may have at most so many nominations here, more than any rule of the house takes.
 const MAX_NOMINATIONS: usize = 16;
 
-// What is wrong with a line, mostly with the number of the word where it shows.
-#[derive(Clone, Copy)]
+// The word of a line with its first nomination.
+const FIRST: u8 = 6;
+
+// What is wrong with a line.
+#[derive(Clone, Copy, Debug, PartialEq, Eq)]
 pub enum Fault {
-    Missing(u8),
-    NotDecimal(u8),
-    TooLarge(u8),
-    Extra,
+    Word(WordFault),
     Period,
     Energy,
 }
@@ -35,21 +37,26 @@ impl fmt::Display for Fault {
 
     fn fmt<W: fmt::Write>(&self, f: &mut fmt::Formatter<W>) -> fmt::Result {
         match self {
-            Fault::Missing(word) => write!(f, "word {word} is missing"),
-            Fault::NotDecimal(word) => write!(f, "word {word} is not a decimal number"),
-            Fault::TooLarge(word) => write!(f, "word {word} is too large"),
-            Fault::Extra => write!(f, "word 22 is one too many"),
+            Fault::Word(fault) => write!(f, "{fault}"),
             Fault::Period => write!(f, "the period is outside 1 to 48"),
             Fault::Energy => write!(f, "the energy is above 9999999 kWh"),
         }
     }
 }
 
+impl From<WordFault> for Fault {
+    ghost from_gives = { λ f r. r ≡ Word f };
+
+    fn from(fault: WordFault) -> Fault {
+        Fault::Word(fault)
+    }
+}
+
 // Why a line gave no half hour.
-#[derive(Clone, Copy)]
+#[derive(Clone, Copy, Debug, PartialEq, Eq)]
 pub enum Unread {
     Malformed(Fault),
-    NoMemory,
+    NoMemory(AllocError),
 }
 
 impl From<Fault> for Unread {
@@ -60,11 +67,27 @@ impl From<Fault> for Unread {
     }
 }
 
-impl<T: Drop> From<AllocFailed<T>> for Unread {
-    ghost from_gives = { λ _ r. r ≡ NoMemory };
+impl From<WordFault> for Unread {
+    ghost from_gives = { λ f r. r ≡ Malformed (Word f) };
 
-    fn from(_refused: AllocFailed<T>) -> Unread {
-        Unread::NoMemory
+    fn from(fault: WordFault) -> Unread {
+        Unread::Malformed(Fault::Word(fault))
+    }
+}
+
+impl From<AllocError> for Unread {
+    ghost from_gives = { λ e r. r ≡ NoMemory e };
+
+    fn from(refused: AllocError) -> Unread {
+        Unread::NoMemory(refused)
+    }
+}
+
+impl<T: Drop> From<AllocFailed<T>> for Unread {
+    ghost from_gives = { λ _ r. r ≡ NoMemory alloc_error };
+
+    fn from(refused: AllocFailed<T>) -> Unread {
+        Unread::NoMemory(AllocError::from(refused))
     }
 }
 
@@ -92,106 +115,57 @@ impl HalfHour {
     }
 }
 
-// The words of a line that are not yet read.
-#[derive(Drop)]
-struct Words<'a> {
-    rest: &'a [u8],
-}
-
-impl Words<'_> {
-    // The next word, which is the line's word `place`, as a number of at most `most`.
-    fn number(&mut self, place: u8, most: u64) -> Result<u64, Fault>
-        ensures value { result ≡ number_in place most (words_of self.old.rest.now) }
-        ensures bound { IfOk result (λ n. n ≤ most) }
-        ensures rest { words_of self.new.rest.now ≡ drop 1 (words_of self.old.rest.now) }
-    {
-        match next_word(self.rest) {
-            Some(word) => {
-                self.rest = word.rest;
-                number_in(word.first, place, most)
-            }
-            None => Err(Fault::Missing(place)),
-        }
-    }
-
-    fn period(&mut self) -> Result<u8, Fault>
-        ensures value { result ≡ period_in (words_of self.old.rest.now) }
-        ensures rest { words_of self.new.rest.now ≡ drop 1 (words_of self.old.rest.now) }
-    {
-        let period = self.number(1, BYTE)? as u8;
-        if period == 0 || period > PERIODS {
-            return Err(Fault::Period);
-        }
-        Ok(period)
-    }
-
-    fn energy(&mut self) -> Result<u32, Fault>
-        ensures value { result ≡ energy_in (words_of self.old.rest.now) }
-        ensures rest { words_of self.new.rest.now ≡ drop 1 (words_of self.old.rest.now) }
-    {
-        let energy = self.number(2, WORD)? as u32;
-        if energy > MAX_KWH {
-            return Err(Fault::Energy);
-        }
-        Ok(energy)
-    }
-
-    // The nominations, from the line's sixth word to its end.
-    fn nominations(&mut self, heap: Global) -> Result<Vec<u32>, Unread>
-        ensures { Gathers (words_of self.old.rest.now) result }
-    {
-        let mut list = Vec::new(heap);
-        while let Some(word) = next_word(self.rest) {
-            if list.len() >= MAX_NOMINATIONS {
-                return Err(Unread::Malformed(Fault::Extra));
-            }
-            list.push(number_in(word.first, FIRST + list.len() as u8, WORD)? as u32)?;
-            self.rest = word.rest;
-        }
-        if list.is_empty() {
-            return Err(Unread::Malformed(Fault::Missing(FIRST)));
-        }
-        Ok(list)
-    }
-}
-
-// The largest numbers of 8 and of 32 bits.
-const BYTE: u64 = 255;
-
-const WORD: u64 = 4_294_967_295;
-
-// The word of a line with its first nomination.
-const FIRST: u8 = 6;
-
 // The half hour that a line writes, or the first fault in the order of its words.
 pub fn read_half_hour(heap: Global, line: &[u8]) -> Result<HalfHour, Unread>
     ensures { Reads (words_of line.now) result }
 {
-    let mut words = Words { rest: line };
-    let period = words.period()?;
-    let energy = words.energy()?;
-    let method = words.number(3, BYTE)? as u8;
-    let capacity = words.number(4, WORD)? as u32;
-    let balance = words.number(5, BYTE)? as u8;
-    let nominations = words.nominations(heap)?;
+    let mut words = Words::of(line);
     Ok(HalfHour {
-        period,
-        energy,
-        method,
-        capacity,
-        balance,
-        nominations,
+        period: period(&mut words)?,
+        energy: energy(&mut words)?,
+        method: words.number(3)?,
+        capacity: words.number(4)?,
+        balance: words.number(5)?,
+        nominations: nominations(heap, words)?,
     })
 }
 
-// A word as a number of at most `most`.
-fn number_in(word: &[u8], place: u8, most: u64) -> Result<u64, Fault>
-    ensures value { result ≡ word_number place most word.now }
-    ensures bound { IfOk result (λ n. n ≤ most) }
+fn period(words: &mut Words<'_>) -> Result<u8, Fault>
+    ensures value { result ≡ period_in (words_of words.old.rest.now) }
+    ensures rest { words_of words.new.rest.now ≡ drop 1 (words_of words.old.rest.now) }
 {
-    match read_decimal(word, most) {
-        Ok(n) => Ok(n),
-        Err(Misread::NotDecimal) => Err(Fault::NotDecimal(place)),
-        Err(Misread::TooLarge) => Err(Fault::TooLarge(place)),
+    let period = words.number(1)?;
+    if !is_period(period) {
+        return Err(Fault::Period);
     }
+    Ok(period)
+}
+
+fn energy(words: &mut Words<'_>) -> Result<u32, Fault>
+    ensures value { result ≡ energy_in (words_of words.old.rest.now) }
+    ensures rest { words_of words.new.rest.now ≡ drop 1 (words_of words.old.rest.now) }
+{
+    let energy = words.number(2)?;
+    if energy > MAX_KWH {
+        return Err(Fault::Energy);
+    }
+    Ok(energy)
+}
+
+// The nominations, from the line's sixth word to its end.
+fn nominations(heap: Global, words: Words<'_>) -> Result<Vec<u32>, Unread>
+    ensures { Gathers (words_left words.entry) result }
+{
+    let mut list = Vec::new(heap);
+    for text in words {
+        let place = FIRST + list.len() as u8;
+        if list.len() >= MAX_NOMINATIONS {
+            return Err(Unread::from(WordFault::Extra(place)));
+        }
+        list.push(word(text, place)?)?;
+    }
+    if list.is_empty() {
+        return Err(Unread::from(WordFault::Missing(FIRST)));
+    }
+    Ok(list)
 }

@@ -1,16 +1,17 @@
 -- An accepted file, its records written again.
 use Rattle.std.proofs.Common.{◌≡◌, ℕ, ◌+◌, ◌*◌, ◌<◌, ◌≤◌, true, cond, eqb, leb, List, [], ◌++◌, length, get_or, take, drop, Some, None, Ok, Err, Option, Result, sym, refl, ap, ◌∙◌, subst, arith, length-drop}
+use Rattle.std.specs.Prelude.{OnOk}
 use Rattle.std.specs.List.{flat_map}
 use Rattle.std.proofs.lemmas.List.{take-append-drop, length-take-le, get_or-drop}
 use Rattle.std.proofs.ByRecursion.{All-take, All-drop, All-get_or}
 use Rattle.std.proofs.lemmas.Bool.Decides.{nat_tests}
 use Rattle.domain.specs.declared.Fault.{Fault}
-use Rattle.domain.specs.declared.Fault.TheVariants.{OutputTooShort}
+use Rattle.domain.specs.declared.Fault.TheVariants.{OutputTooShort, CountNotAllowed}
 use Rattle.files.specs.Bytes.{Bytes, word16, number16, unpacked}
 use Rattle.files.specs.Records.{row_size, reading_size, line_size, encoded_row, decoded_row, encoded_reading, decoded_reading, encoded_line, decoded_line, encoded_intro, decoded_intro}
-use Rattle.files.specs.Formats.{kind_number, kind_of, body_size, header_of}
+use Rattle.files.specs.Formats.{kind_number, kind_of, allowed, body_size, file_size, header_of}
 use Rattle.files.specs.Reads.{Head, Told, and_then, seen_by, marked, opened, fitted, by_kind, said, read_of}
-use Rattle.files.specs.Contents.{file_of, content_of, rewritten, rewriting}
+use Rattle.files.specs.Contents.{file_of, content_of, rewritten, writing, rewriting, settled}
 use Rattle.files.specs.declared.formats.Kind.{Kind}
 use Rattle.files.specs.declared.formats.Kind.TheVariants.{Schedule, Readings, Statement}
 use Rattle.files.specs.Words.{word16_again, listed_front}
@@ -23,6 +24,7 @@ pub record Accepted (bs : List ℕ) (t : Told) : Type 0 where
   pub kind : Kind
   pub begun : opened bs ≡ Ok head
   pub named : head.kind ≡ kind_number kind
+  pub few : allowed kind head.count ≡ true
   pub long : length head.rest ≡ body_size kind head.count
   pub says : t ≡ said kind head
 
@@ -37,9 +39,12 @@ kind_number_lem n Statement e = grind (arith, nat_tests)
 fitted_long : (k : Kind) (h : Head) (u : Unit {0}) → fitted k h ≡ Ok u → length h.rest ≡ body_size k h.count
 fitted_long k h u e = grind (arith, nat_tests)
 
+fitted_few : (k : Kind) (h : Head) (u : Unit {0}) → fitted k h ≡ Ok u → allowed k h.count ≡ true
+fitted_few k h u e = grind (arith, nat_tests)
+
 accepted_fit : (bs : List ℕ) (t : Told) (h : Head) (k : Kind) → opened bs ≡ Ok h → kind_of h.kind ≡ Some k → (r : Result (Unit {0}) Fault) → fitted k h ≡ r → ◌≡◌ {A = Result Told Fault} (Ok t) (and_then r (λ _. Ok (said k h))) → Accepted bs t
 accepted_fit bs t h k begun which (Ok u) fits e =
-    record { head = h; kind = k; begun = begun; named = kind_number_lem h.kind k which; long = fitted_long k h u fits; says = cc }
+    record { head = h; kind = k; begun = begun; named = kind_number_lem h.kind k which; few = fitted_few k h u fits; long = fitted_long k h u fits; says = cc }
 accepted_fit bs t h k begun which (Err f) fits e = absurd (never t f e)
 
 accepted_kind : (bs : List ℕ) (t : Told) (h : Head) → opened bs ≡ Ok h → (o : Option Kind) → kind_of h.kind ≡ o → ◌≡◌ {A = Result Told Fault} (Ok t) (by_kind o h) → Accepted bs t
@@ -144,19 +149,79 @@ pub rewritten_same : (bs : List ℕ) (t : Told) → Bytes bs → ◌≡◌ {A = 
 rewritten_same bs t all e =
     ap (λ r. seen_by file_of (seen_by content_of r)) (sym e) ∙ ap Ok (content_again bs t all (accepted bs t e))
 
-rows_said : (k : Kind) (h : Head) → (said k h).kind ≡ 1 → length h.rest ≡ body_size k h.count → length (said k h).records ≡ get_or (said k h).numbers 0 0 * 34
-rows_said Schedule h e long = length-drop 8 h.rest ∙ omega arith
-rows_said Readings h e long = absurd (omega arith)
-rows_said Statement h e long = absurd (omega arith)
+one_kind : (k j : Kind) → kind_number k ≡ kind_number j → k ≡ j
+one_kind k j e =
+    let named : (k : Kind) → kind_of (kind_number k) ≡ Some k = elim [ Schedule ↦ refl | Readings ↦ refl | Statement ↦ refl ] in
+    let first = named k in
+    let second = named j in
+    cc
 
--- a schedule's record bytes are its rows'
-pub told_rows : (bs : List ℕ) (t : Told) → Accepted bs t → t.kind ≡ 1 → length t.records ≡ get_or t.numbers 0 0 * 34
-told_rows bs t a e =
-    let P : Told → Type 0 = λ t. length t.records ≡ get_or t.numbers 0 0 * 34 in
-    subst P (sym a.says) (rows_said a.kind a.head (sym (ap (λ t. t.kind) a.says) ∙ e) a.long)
+said_kind : (k : Kind) (h : Head) → (said k h).kind ≡ kind_number k
+said_kind Schedule h = refl
+said_kind Readings h = refl
+said_kind Statement h = refl
 
-pub rewriting_ok : (bs : List ℕ) (t : Told) (room : ℕ) → ◌≡◌ {A = Result Told Fault} (Ok t) (read_of bs) → length bs ≤ room → ◌≡◌ {A = Result ℕ Fault} (Ok (length bs)) (rewriting bs room)
-rewriting_ok bs t room e h =
-    let enough : leb (length bs) room ≡ true = grind (arith, nat_tests) in
+said_count : (k : Kind) (h : Head) → get_or (said k h).numbers 0 0 ≡ h.count
+said_count Schedule h = refl
+said_count Readings h = refl
+said_count Statement h = refl
+
+-- what an accepted file says, by its kind
+pub told_kind : (bs : List ℕ) (t : Told) (k : Kind) (a : Accepted bs t) → t.kind ≡ kind_number k → a.kind ≡ k
+told_kind bs t k a e =
+    one_kind a.kind k (sym (said_kind a.kind a.head) ∙ ap (λ t. t.kind) (sym a.says) ∙ e)
+
+-- bytes of each record of a file of the kind
+abbrev pub record_size : Kind → ℕ
+record_size Schedule = row_size
+record_size Readings = reading_size
+record_size Statement = line_size
+
+records_said : (k : Kind) (h : Head) → length h.rest ≡ body_size k h.count → length (said k h).records ≡ h.count * record_size k
+records_said Schedule h long = length-drop 8 h.rest ∙ omega arith
+records_said Readings h long = long
+records_said Statement h long = long
+
+-- an accepted file has as many record bytes as its count gives
+pub told_records : (bs : List ℕ) (t : Told) (k : Kind) → Accepted bs t → t.kind ≡ kind_number k → length t.records ≡ get_or t.numbers 0 0 * record_size k
+told_records bs t k a e =
+    let is = told_kind bs t k a e in
+    let size = ap record_size is in
+    let long = records_said a.kind a.head a.long in
+    let count = said_count a.kind a.head in
+    let says = a.says in
+    cc
+
+-- writing the records of an accepted file answers what writing it again does
+pub writing_again : (bs : List ℕ) (t : Told) (k : Kind) (room : ℕ) (r : Result ℕ Fault) → ◌≡◌ {A = Result Told Fault} (Ok t) (read_of bs) → t.kind ≡ kind_number k → r ≡ writing k (get_or t.numbers 0 0) room → r ≡ rewriting bs room
+writing_again bs t k room r e named written =
+    let a = accepted bs t e in
+    let is = told_kind bs t k a named in
+    let count : get_or t.numbers 0 0 ≡ a.head.count = ap (λ t. get_or t.numbers 0 0) a.says ∙ said_count a.kind a.head in
+    let size : file_size a.kind a.head.count ≡ length bs = omega (arith, a.long, opened_long bs a.head a.begun, ap (λ h. length h.rest) (opened_head bs a.head a.begun), length-drop 8 bs) in
     let next : Told → Result ℕ Fault = λ t. cond (leb (length bs) room) (Ok (length bs)) (Err (OutputTooShort (length bs))) in
-    sym (ap (λ b. cond b (Ok (length bs)) (Err (OutputTooShort (length bs)))) enough) ∙ ap (λ r. and_then r next) e
+    written
+    ∙ ap (λ n. writing k n room) count
+    ∙ ap (λ k. writing k a.head.count room) (sym is)
+    ∙ ap (λ b. cond b (cond (leb (file_size a.kind a.head.count) room) (Ok (file_size a.kind a.head.count)) (Err (OutputTooShort (file_size a.kind a.head.count)))) (Err CountNotAllowed)) a.few
+    ∙ ap (λ n. cond (leb n room) (Ok n) (Err (OutputTooShort n))) size
+    ∙ ap (λ r. and_then r next) e
+
+-- what the contract of writing a file again says
+pub record Rewrote (bs old out : List ℕ) (r : Result ℕ Fault) : Type 0 where
+  pub result : r ≡ rewriting bs (length old)
+  pub after : out ≡ settled r bs old
+  pub again : OnOk r (rewritten bs ≡ Ok bs)
+
+on_ok : {X P : Type 0} (r : Result X Fault) → P → OnOk r P
+on_ok (Ok x) p = p
+on_ok (Err fault) p = tt
+
+-- a file that was read, its records written as a file of its kind
+pub again : (bs : List ℕ) (t : Told) (k : Kind) (old out : List ℕ) (r : Result ℕ Fault) → Bytes bs → ◌≡◌ {A = Result Told Fault} (Ok t) (read_of bs) → t.kind ≡ kind_number k → r ≡ writing k (get_or t.numbers 0 0) (length old) → out ≡ settled r (told_bytes t) old → Rewrote bs old out r
+again bs t k old out r all e named written wrote =
+    record {
+      result = writing_again bs t k (length old) r e named written;
+      after = wrote ∙ ap (λ b. settled r b old) (told_again bs t all (accepted bs t e));
+      again = on_ok r (rewritten_same bs t all e);
+    }

@@ -1,5 +1,6 @@
 -- What a writer wrote, read back.
-use Rattle.std.proofs.Common.{◌≡◌, ℕ, ◌+◌, ◌*◌, ◌/◌, ◌%◌, ◌<◌, true, List, ◌++◌, length, take, Ok, Result, sym, refl, ap, ◌∙◌, arith, rules}
+use Rattle.std.proofs.Common.{◌≡◌, ℕ, ◌+◌, ◌*◌, ◌/◌, ◌%◌, ◌<◌, true, List, ◌++◌, length, take, Ok, Err, Result, sym, refl, ap, ◌∙◌, arith, rules}
+use Rattle.std.specs.Prelude.{IfOk, OnOk}
 use Rattle.std.specs.List.{flat_map, AllByRecursion}
 use Rattle.std.proofs.lemmas.Bool.Decides.{nat_tests}
 use Rattle.domain.specs.declared.Fault.{Fault}
@@ -7,7 +8,7 @@ use Rattle.files.specs.Bytes.{unpacked}
 use Rattle.files.specs.Records.{encoded_reading, decoded_reading, WholeReading, encoded_line, decoded_line, WholeLine, row_size, encoded_row, decoded_row, WholeRow, encoded_intro, decoded_intro, WholeIntro}
 use Rattle.files.specs.Formats.{kind_number, kind_of, allowed, body_size, file_size, header_of}
 use Rattle.files.specs.Reads.{Head, Told, and_then, seen_by, opened, fitted, by_kind, said, read_of}
-use Rattle.files.specs.Contents.{Content, of_schedule, of_readings, of_statement, file_of, content_of, content_read, writing, over}
+use Rattle.files.specs.Contents.{Content, of_schedule, of_readings, of_statement, file_of, content_of, content_read, writing, over, settled}
 use Rattle.files.specs.declared.formats.Kind.{Kind}
 use Rattle.files.specs.declared.formats.Kind.TheVariants.{Schedule, Readings, Statement}
 use Rattle.files.specs.declared.records.ReadingRecord.{ReadingRecord}
@@ -99,3 +100,9 @@ pub read_over : (k : Kind) (count room n : ℕ) (content : Content) (old out : L
 read_over k count room n content old out written long wrote back =
     let size : length (file_of content) ≡ n = long ∙ sym (writing_ok k count room n written).1 in
     ap content_read (ap (take n) wrote ∙ take-over n (file_of content) old size) ∙ back
+
+-- the same of a buffer after an answer
+pub settled_back : {W : Type 0} (k : Kind) (count room : ℕ) (content : Content) (old out : List ℕ) (r : Result ℕ Fault) → r ≡ writing k count room → out ≡ settled r (file_of content) old → OnOk r W → (W → length (file_of content) ≡ file_size k count) → (allowed k count ≡ true → W → content_read (file_of content) ≡ Ok content) → IfOk r (λ n. content_read (take n out) ≡ Ok content)
+settled_back k count room content old out (Ok n) written wrote whole long back =
+    read_over k count room n content old out written (long whole) wrote (back (writing_ok k count room n written).0 whole)
+settled_back k count room content old out (Err fault) written wrote whole long back = tt

@@ -27,6 +27,10 @@ unfoldable pub unpacked : {X : Type 0} → (List ℕ → X) → ℕ → ℕ → 
 unpacked decode size zero bs = []
 unpacked decode size (suc n) bs = decode (take size bs) ∷ unpacked decode size n (drop size bs)
 
+-- all records that the bytes have
+abbrev pub records_in : {X : Type 0} → (List ℕ → X) → ℕ → List ℕ → List X
+records_in decode size bs = unpacked decode size (length bs / size) bs
+
 -- the record at a place, of as many as the bytes have, or none past the last
 abbrev pub record_in : {X : Type 0} → (List ℕ → X) → ℕ → List ℕ → ℕ → Option X
-record_in decode size bs index = slice_get (unpacked decode size (length bs / size) bs) index
+record_in decode size bs index = slice_get (records_in decode size bs) index

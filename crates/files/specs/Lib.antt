@@ -6,3 +6,4 @@ pub mod Contents
 pub mod Laws
 pub mod Packs
 pub mod Words
+pub mod Texts

@@ -4,7 +4,8 @@ use Rattle.std.proofs.Common.{sym, ap, ◌∙◌, append_assoc, add-mul, mul-le-
 use Rattle.std.specs.Int.{w8}
 use borrow.Rule.Slice.PartMut.{put_mid}
 use Rattle.std.specs.List.{flat_map, AllByRecursion, slice_get}
-use Rattle.files.specs.Bytes.{Bytes, unpacked}
+use Rattle.std.proofs.Math.Nat.{div-eq-sub-div, div-eq_of_lt}
+use Rattle.files.specs.Bytes.{Bytes, unpacked, records_in}
 use Rattle.std.proofs.lemmas.List.{take_more, take_at, drop_at, drop-drop, length-take-le, flat_map_more, nil_from_length, take-append-drop, take_more_set, take-take, drop-take}
 use Rattle.std.proofs.ByRecursion.{All-from_get_or, All-take, All-drop}
 
@@ -108,10 +109,10 @@ take_next i s bs =
     let far = ap (λ m. take m bs) (one_more i s) in
     cc
 
--- a record's own bytes, where the code has r for the size
-pub part_is : (i r s : ℕ) (bs : List ℕ) → r ≡ s → take (i * r + r - i * r) (drop (i * r) bs) ≡ take s (drop (i * s) bs)
-part_is i r s bs e =
-    let n : i * r + r - i * r ≡ s = omega arith in
+-- a record's own bytes, where the code has r and t for the size
+pub part_is : (i r t s : ℕ) (bs : List ℕ) → r ≡ s → t ≡ s → take (i * r + t - i * r) (drop (i * r) bs) ≡ take s (drop (i * s) bs)
+part_is i r t s bs e f =
+    let n : i * r + t - i * r ≡ s = omega arith in
     let at : i * r ≡ i * s = ap (λ m. i * m) e in
     cc
 
@@ -150,3 +151,35 @@ copy_turn i s bs old out part at k long places size before wrote =
 -- a record that is not past the last lies within the bytes
 pub room_index : (i s n : ℕ) → i < n / s → i * s + s ≤ n
 room_index i s n h = room_more i (n / s) s n h (div-mul-le_self n s)
+
+-- of bytes that have a record, the first, and those behind it
+pub records_more : {X : Type 0} (d : List ℕ → X) (s : ℕ) (bs : List ℕ) → 0 < s → s ≤ length bs → records_in d s bs ≡ d (take s bs) ∷ records_in d s (drop s bs)
+unfolding unpacked
+records_more d s bs some room =
+    let more : length bs / s ≡ suc (length (drop s bs) / s) = div-eq-sub-div some room ∙ ap (λ n. n / s + 1) (sym (length-drop s bs)) ∙ omega arith in
+    ap (λ n. unpacked d s n bs) more
+
+pub records_none : {X : Type 0} (d : List ℕ → X) (s : ℕ) (bs : List ℕ) → length bs < s → records_in d s bs ≡ []
+unfolding unpacked
+records_none d s bs short = ap (λ n. unpacked d s n bs) (div-eq_of_lt short)
+
+-- what a turn of a loop over a list knows: where the list's rest is what is left, the next item stands at the loop's index
+pub record Turned {X : Type 0} (xs : List X) (i : ℕ) (x : X) (rest : List X) : Type 0 where
+  pub inside : i < length xs
+  pub here : x ≡ slice_index_or xs i x
+  pub left : drop (i + 1) xs ≡ rest
+
+turned_suc : {X : Type 0} (y : X) (xs : List X) (i : ℕ) (x : X) (rest : List X) → Turned xs i x rest → Turned (y ∷ xs) (suc i) x rest
+turned_suc y xs i x rest t =
+    let next : suc i + 1 ≡ suc (i + 1) = omega arith in
+    record { inside = omega arith; here = t.here; left = ap (λ n. drop n (y ∷ xs)) next ∙ t.left }
+
+pub turned : {X : Type 0} (xs : List X) (i : ℕ) (x : X) (rest : List X) → drop i xs ≡ x ∷ rest → Turned xs i x rest
+turned [] zero x rest e = absurd (cc)
+turned [] (suc i) x rest e = absurd (cc)
+turned (y ∷ xs) zero x rest e = record { inside = omega arith; here = cc; left = cc }
+turned (y ∷ xs) (suc i) x rest e = turned_suc y xs i x rest (turned xs i x rest e)
+
+-- where nothing is left, the index is the end
+pub ended : {X : Type 0} (xs : List X) (i : ℕ) → i ≤ length xs → drop i xs ≡ [] → i ≡ length xs
+ended xs i h e = omega (arith, length-drop i xs, ap length e)

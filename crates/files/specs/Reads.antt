@@ -1,6 +1,7 @@
 -- What reading a file answers: which kind, which numbers and which record bytes, or which refusal.
 use Rattle.std.specs.Prelude.{ℕ, Bool, cond, ◌&&◌, List, [], ◌∷◌, length, take, drop, Some, None, Ok, Err, Option, Result, ◌==◌, nat_lt, slice_index}
 use Rattle.domain.specs.declared.Fault.{Fault}
+use Rattle.domain.specs.declared.Line.{Line}
 use Rattle.domain.specs.declared.Fault.TheVariants.{FileTooShort, AnotherMark, AnotherVersion, AnotherKind, CountNotAllowed, AnotherLength}
 use Rattle.files.specs.Bytes.{number16}
 use Rattle.files.specs.Records.{intro_size, decoded_intro}
@@ -10,8 +11,8 @@ use Rattle.files.specs.declared.formats.Kind.TheVariants.{Schedule, Readings, St
 use Rattle.files.specs.declared.records.Intro.{Intro}
 use Rattle.files.specs.declared.reader.Header.{Header}
 use Rattle.files.specs.declared.reader.ScheduleFile.{ScheduleFile}
-use Rattle.files.specs.declared.reader.ReadingsFile.{ReadingsFile}
-use Rattle.files.specs.declared.reader.StatementFile.{StatementFile}
+use Rattle.files.specs.declared.reader.ListFile.{ListFile}
+use Rattle.files.specs.declared.records.ReadingRecord.{ReadingRecord}
 use Rattle.files.specs.declared.reader.File.{File}
 use Rattle.files.specs.declared.reader.File.TheVariants as file
 
@@ -44,15 +45,19 @@ head_seen h = record { kind = h.kind; count = h.count; size = h.size; rest = h.r
 
 -- kind byte, numbers and record bytes of a schedule that was read
 abbrev pub told_schedule : ScheduleFile → Told
-told_schedule f = record { kind = 1; numbers = f.count ∷ f.sender ∷ f.day ∷ f.moment ∷ []; records = f.rows.now }
+told_schedule f = record { kind = 1; numbers = f.count ∷ f.intro.sender ∷ f.intro.day ∷ f.intro.moment ∷ []; records = f.rows.bytes.now }
+
+-- those of a file of the kind that holds a list of records
+abbrev pub told_list : {R : Type 0} → Kind → ListFile R → Told
+told_list k f = record { kind = kind_number k; numbers = f.count ∷ []; records = f.records.bytes.now }
 
 -- those of a readings file
-abbrev pub told_readings : ReadingsFile → Told
-told_readings f = record { kind = 2; numbers = f.count ∷ []; records = f.records.now }
+abbrev pub told_readings : ListFile ReadingRecord → Told
+told_readings = told_list Readings
 
 -- those of a statement
-abbrev pub told_statement : StatementFile → Told
-told_statement f = record { kind = 3; numbers = f.count ∷ []; records = f.lines.now }
+abbrev pub told_statement : ListFile Line → Told
+told_statement = told_list Statement
 
 -- number and values of each case of a file read
 abbrev pub told : File → Told

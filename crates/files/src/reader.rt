@@ -1,38 +1,34 @@
 // Reading: which kind of file it is, its numbers and its record bytes, or why it is refused.
 
-ghost use Rattle.std.specs.Prelude.{◌≡◌};
-ghost use Rattle.files.specs.Bytes.{record_in};
-ghost use Rattle.files.specs.Records.{row_size, decoded_row, reading_size, decoded_reading, line_size, decoded_line};
-ghost use Rattle.files.specs.Reads.{seen_by, head_seen, told_schedule, told_readings, told_statement, told, opened, fitted, answered, read_of, read_kind_of};
+ghost use Rattle.std.specs.Prelude.{◌≡◌, length};
+ghost use Rattle.files.specs.Formats.{body_size};
+ghost use Rattle.files.specs.Reads.{Told, seen_by, head_seen, told_schedule, told_list, told_readings, told_statement, told, opened, fitted, said, answered, read_of, read_kind_of};
 ghost use Rattle.files.specs.declared.formats.Kind.TheVariants as kind;
 
-use crate::formats::{INTRO, Kind, VERSION};
-use crate::records::{Intro, ReadingRecord, Record, record_at};
+use crate::formats::{INTRO, Kind, OfKind, VERSION};
+use crate::records::{Intro, Listed, ReadingRecord, Record, Records};
 use domain::{AllocationRow, Fault, Line};
 
-// A schedule: its numbers, and the bytes of its rows.
+// A schedule: its count, the numbers before its rows, and its rows.
 #[derive(Clone, Copy)]
 pub struct ScheduleFile<'a> {
     pub count: u16,
-    pub sender: u16,
-    pub day: u16,
-    pub moment: u32,
-    pub rows: &'a [u8],
+    pub intro: Intro,
+    pub rows: Records<'a, AllocationRow>,
 }
 
-// A readings file: its count, and the bytes of its readings.
+// A file that holds a list of records and nothing else: its count, and its records.
 #[derive(Clone, Copy)]
-pub struct ReadingsFile<'a> {
+pub struct ListFile<'a, R> {
     pub count: u16,
-    pub records: &'a [u8],
+    pub records: Records<'a, R>,
 }
 
-// A statement: its count, and the bytes of its lines.
-#[derive(Clone, Copy)]
-pub struct StatementFile<'a> {
-    pub count: u16,
-    pub lines: &'a [u8],
-}
+// A readings file.
+pub type ReadingsFile<'a> = ListFile<'a, ReadingRecord>;
+
+// A statement.
+pub type StatementFile<'a> = ListFile<'a, Line>;
 
 // A file that was read, by its kind. The record bytes are a part of the input.
 #[derive(Clone, Copy)]
@@ -49,6 +45,59 @@ pub(crate) struct Header<'a> {
     count: u16,
     size: usize,
     rest: &'a [u8],
+}
+
+// What is read of a file of one kind.
+trait Content<'a>: OfKind {
+    ghost told: { Self → Told };
+
+    // What stands behind a header whose count and length were judged.
+    fn behind(header: Header<'a>) -> Self
+        requires { length header.rest.now ≡ body_size Self.KIND header.count }
+        ensures { told result ≡ said Self.KIND (head_seen header.entry) };
+}
+
+impl<'a> OfKind for ScheduleFile<'a> {
+    ghost KIND = { kind.Schedule };
+
+    fn kind() -> Kind
+        ensures { result ≡ kind.Schedule }
+    {
+        Kind::Schedule
+    }
+}
+
+impl<'a> Content<'a> for ScheduleFile<'a> {
+    ghost told = { told_schedule };
+
+    fn behind(header: Header<'a>) -> ScheduleFile<'a> {
+        ScheduleFile {
+            count: header.count,
+            intro: Intro::decode(&header.rest[..INTRO]),
+            rows: Records::new(&header.rest[INTRO..]),
+        }
+    }
+}
+
+impl<'a, R: Listed> OfKind for ListFile<'a, R> {
+    ghost KIND = { R.Listed.KIND };
+
+    fn kind() -> Kind
+        ensures { result ≡ R.Listed.KIND }
+    {
+        R::KIND
+    }
+}
+
+impl<'a, R: Listed> Content<'a> for ListFile<'a, R> {
+    ghost told = { told_list R.Listed.KIND };
+
+    fn behind(header: Header<'a>) -> ListFile<'a, R> {
+        ListFile {
+            count: header.count,
+            records: Records::new(header.rest),
+        }
+    }
 }
 
 // Takes the header off a file.
@@ -88,42 +137,12 @@ impl<'a> Header<'a> {
         Ok(())
     }
 
-    fn schedule(&self) -> Result<ScheduleFile<'a>, Fault>
-        ensures { seen_by told_schedule result ≡ answered kind.Schedule (head_seen self.now) }
+    // What stands behind the header, read as a file of one kind.
+    fn content<C: Content<'a>>(self) -> Result<C, Fault>
+        ensures { seen_by C.Content.told result ≡ answered C.OfKind.KIND (head_seen self.entry) }
     {
-        self.judge(Kind::Schedule)?;
-        let Intro {
-            sender,
-            day,
-            moment,
-        } = Intro::decode(&self.rest[0..INTRO]);
-        Ok(ScheduleFile {
-            count: self.count,
-            sender,
-            day,
-            moment,
-            rows: &self.rest[INTRO..],
-        })
-    }
-
-    fn readings(&self) -> Result<ReadingsFile<'a>, Fault>
-        ensures { seen_by told_readings result ≡ answered kind.Readings (head_seen self.now) }
-    {
-        self.judge(Kind::Readings)?;
-        Ok(ReadingsFile {
-            count: self.count,
-            records: self.rest,
-        })
-    }
-
-    fn statement(&self) -> Result<StatementFile<'a>, Fault>
-        ensures { seen_by told_statement result ≡ answered kind.Statement (head_seen self.now) }
-    {
-        self.judge(Kind::Statement)?;
-        Ok(StatementFile {
-            count: self.count,
-            lines: self.rest,
-        })
+        self.judge(C::kind())?;
+        Ok(C::behind(self))
     }
 }
 
@@ -132,70 +151,41 @@ pub fn read(file: &[u8]) -> Result<File<'_>, Fault>
     ensures { seen_by told result ≡ read_of file.now }
 {
     let header = open(file)?;
-    match Kind::of(header.kind) {
-        Some(Kind::Schedule) => Ok(File::Schedule(header.schedule()?)),
-        Some(Kind::Readings) => Ok(File::Readings(header.readings()?)),
-        Some(Kind::Statement) => Ok(File::Statement(header.statement()?)),
-        None => Err(Fault::AnotherKind),
+    match Kind::try_from(header.kind)? {
+        Kind::Schedule => Ok(File::Schedule(header.content()?)),
+        Kind::Readings => Ok(File::Readings(header.content()?)),
+        Kind::Statement => Ok(File::Statement(header.content()?)),
     }
 }
 
-// Reads a schedule. A file of another kind is refused before its count and length are judged.
+// Reads a file of one kind. A file of another kind is refused before its count and length are judged.
+fn read_as<'a, C: Content<'a>>(file: &'a [u8]) -> Result<C, Fault>
+    ensures { seen_by C.Content.told result ≡ read_kind_of C.OfKind.KIND file.now }
+{
+    let header = open(file)?;
+    if header.kind != u8::from(C::kind()) {
+        return Err(Fault::AnotherKind);
+    }
+    header.content()
+}
+
+// Reads a schedule, as `read_as` does.
 pub fn read_schedule(file: &[u8]) -> Result<ScheduleFile<'_>, Fault>
     ensures { seen_by told_schedule result ≡ read_kind_of kind.Schedule file.now }
 {
-    let header = open(file)?;
-    if header.kind != Kind::Schedule.number() {
-        return Err(Fault::AnotherKind);
-    }
-    header.schedule()
+    read_as::<ScheduleFile<'_>>(file)
 }
 
-// Reads a readings file. A file of another kind is refused before its count and length are judged.
+// Reads a readings file, as `read_as` does.
 pub fn read_readings(file: &[u8]) -> Result<ReadingsFile<'_>, Fault>
     ensures { seen_by told_readings result ≡ read_kind_of kind.Readings file.now }
 {
-    let header = open(file)?;
-    if header.kind != Kind::Readings.number() {
-        return Err(Fault::AnotherKind);
-    }
-    header.readings()
+    read_as::<ReadingsFile<'_>>(file)
 }
 
-// Reads a statement. A file of another kind is refused before its count and length are judged.
+// Reads a statement, as `read_as` does.
 pub fn read_statement(file: &[u8]) -> Result<StatementFile<'_>, Fault>
     ensures { seen_by told_statement result ≡ read_kind_of kind.Statement file.now }
 {
-    let header = open(file)?;
-    if header.kind != Kind::Statement.number() {
-        return Err(Fault::AnotherKind);
-    }
-    header.statement()
-}
-
-impl ScheduleFile<'_> {
-    // The row at an index, or none past the last.
-    pub fn row(&self, index: usize) -> Option<AllocationRow>
-        ensures { result ≡ record_in decoded_row row_size self.now.rows.now index }
-    {
-        record_at(self.rows, index)
-    }
-}
-
-impl ReadingsFile<'_> {
-    // The reading at an index, or none past the last.
-    pub fn reading(&self, index: usize) -> Option<ReadingRecord>
-        ensures { result ≡ record_in decoded_reading reading_size self.now.records.now index }
-    {
-        record_at(self.records, index)
-    }
-}
-
-impl StatementFile<'_> {
-    // The line at an index, or none past the last.
-    pub fn line(&self, index: usize) -> Option<Line>
-        ensures { result ≡ record_in decoded_line line_size self.now.lines.now index }
-    {
-        record_at(self.lines, index)
-    }
+    read_as::<StatementFile<'_>>(file)
 }

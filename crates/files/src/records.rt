@@ -1,14 +1,22 @@
 // Records of a fixed number of bytes, and lists of them one after the other.
 
-ghost use Rattle.std.specs.Prelude.{◌≡◌, ℕ, ◌+◌, ◌-◌, ◌*◌, ◌/◌, ◌<◌, ◌≤◌, List, ◌++◌, length, drop};
+ghost use Rattle.std.specs.Prelude.{◌≡◌, ℕ, ◌+◌, ◌-◌, ◌*◌, ◌/◌, ◌^◌, ◌<◌, ◌≤◌, List, [], ◌∷◌, ◌++◌, length, drop, Some, MatchOption, refl};
 ghost use Rattle.std.specs.List.{flat_map, AllByRecursion};
-ghost use Rattle.files.specs.Bytes.{Bytes, word32, number32, unpacked, record_in};
+ghost use Rattle.std.specs.Iterator.{YieldsFirst, item_count};
+ghost use Rattle.files.specs.Bytes.{Bytes, word32, number32, unpacked, records_in, record_in};
 ghost use Rattle.files.specs.Records.{Whole32, row_size, encoded_row, decoded_row, WholeRow, reading_size, encoded_reading, decoded_reading, WholeReading, line_size, encoded_line, decoded_line, WholeLine, intro_size, encoded_intro, decoded_intro, WholeIntro};
 ghost use Rattle.files.specs.Laws.{number_again, reading_again, line_again, row_long, row_back, row_again, intro_again};
+ghost use Rattle.files.specs.Formats.{kind_number, body_size};
+ghost use Rattle.files.specs.Texts.{reading_text};
+ghost use Rattle.files.specs.Reads.{Head, said};
+ghost use Rattle.files.specs.declared.formats.Kind.{Kind};
+ghost use Rattle.files.specs.declared.formats.Kind.TheVariants as kind;
 ghost use Rattle.std.proofs.Common.{rules};
 
-use crate::formats::{INTRO, LINE, READING, ROW};
+use crate::formats::{INTRO, Kind, LINE, READING, ROW};
 use domain::{AllocationRow, Line, NOMINATIONS};
+use std::fmt;
+use std::marker::PhantomData;
 
 // A record of a readings file: the energy that was metered in one Settlement Period of a day.
 #[derive(Clone, Copy, PartialEq, Eq, Debug)]
@@ -19,9 +27,23 @@ pub struct ReadingRecord {
     pub kwh: u32,
 }
 
+impl fmt::Display for ReadingRecord {
+    ghost output = { λ reading. Some (reading_text reading) };
+
+    fn fmt<W: fmt::Write>(&self, f: &mut fmt::Formatter<W>) -> fmt::Result {
+        let ReadingRecord {
+            day,
+            period,
+            quality,
+            kwh,
+        } = *self;
+        write!(f, "{day} {period} {quality} {kwh}")
+    }
+}
+
 // A record of a fixed number of bytes: its encoding and its decoding undo each other.
-pub(crate) trait Record: Copy {
-    ghost size: { ℕ };
+pub trait Record: Copy {
+    ghost SIZE: { ℕ };
 
     ghost encoded: { Self → List ℕ };
 
@@ -30,80 +52,164 @@ pub(crate) trait Record: Copy {
     ghost whole: { Self → Type 0 };
 
     // How many bytes a record has.
-    fn size() -> usize
-        ensures { result ≡ size };
+    const SIZE: usize;
 
     // Writes the record's bytes.
     fn encode(self, out: &mut [u8])
-        requires { length out.old ≡ size }
+        requires { length out.old ≡ SIZE }
         ensures after { out.new ≡ encoded self }
         ensures fits { whole self };
 
     // The record that the bytes stand for.
     fn decode(bytes: &[u8]) -> Self
-        requires { length bytes.now ≡ size }
+        requires { length bytes.now ≡ SIZE }
         ensures { result ≡ decoded bytes.now };
 
-    ghost some: { 0 < size };
+    ghost some: { 0 < SIZE };
 
-    ghost long: { (x : Self) → whole x → length (encoded x) ≡ size };
+    ghost long: { (x : Self) → whole x → length (encoded x) ≡ SIZE };
 
     ghost back: { (x : Self) → whole x → decoded (encoded x) ≡ x };
 
-    ghost again: { (bs : List ℕ) → length bs ≡ size → Bytes bs → encoded (decoded bs) ≡ bs };
+    ghost again: { (bs : List ℕ) → length bs ≡ SIZE → Bytes bs → encoded (decoded bs) ≡ bs };
+}
+
+// A record of files that hold a list of such records and nothing else.
+pub trait Listed: Record {
+    ghost KIND: { Kind };
+
+    // The kind of those files.
+    const KIND: Kind;
+
+    ghost sized: { (n : ℕ) → body_size KIND n ≡ n * Self.SIZE };
+
+    ghost plain: { (h : Head) → said KIND h ≡ record { kind = kind_number KIND; numbers = h.count ∷ []; records = h.rest } };
 }
 
 // Writes the records one after the other, and leaves what lies past them.
+// Nothing is known of what is written through `chunks_exact_mut`, so the places are counted here.
 pub(crate) fn write_records<R: Record>(records: &[R], out: &mut [u8])
-    requires { length records.now * R.Record.size ≤ length out.old }
-    ensures after { out.new ≡ flat_map R.Record.encoded records.now ++ drop (length records.now * R.Record.size) out.old }
+    requires { length records.now * R.Record.SIZE ≤ length out.old }
+    ensures after { out.new ≡ flat_map R.Record.encoded records.now ++ drop (length records.now * R.Record.SIZE) out.old }
     ensures fits { AllByRecursion R.Record.whole records.now }
 {
-    let size = R::size();
     for (i, record) in records.iter().enumerate() {
-        let at = i * size;
-        record.encode(&mut out[at..at + size]);
+        let at = i * R::SIZE;
+        record.encode(&mut out[at..at + R::SIZE]);
+    }
+}
+
+// Writes the records that the bytes stand for again, one after the other, and leaves what lies past them.
+// One function for these and those of `write_records` would take any iterator, and say of each of its runs what is said of a list here.
+pub(crate) fn copy_records<R: Record>(bytes: &[u8], out: &mut [u8])
+    requires whole { length bytes.now / R.Record.SIZE * R.Record.SIZE ≡ length bytes.now }
+    requires room { length bytes.now ≤ length out.old }
+    ensures { out.new ≡ bytes.now ++ drop (length bytes.now) out.old }
+{
+    for (i, record) in Records::<R>::new(bytes).iter().enumerate() {
+        let at = i * R::SIZE;
+        record.encode(&mut out[at..at + R::SIZE]);
     }
 }
 
 // Reads as many records as `out` has room for from their bytes, one after the other.
 pub(crate) fn read_records<R: Record>(bytes: &[u8], out: &mut [R])
-    requires { length bytes.now ≡ length out.old * R.Record.size }
-    ensures { out.new ≡ unpacked R.Record.decoded R.Record.size (length out.old) bytes.now }
+    requires { length bytes.now ≡ length out.old * R.Record.SIZE }
+    ensures { out.new ≡ unpacked R.Record.decoded R.Record.SIZE (length out.old) bytes.now }
 {
-    let size = R::size();
-    for i in 0..out.len() {
-        let at = i * size;
-        out[i] = R::decode(&bytes[at..at + size]);
-    }
-}
-
-// Writes the records that the bytes stand for again, one after the other, and leaves what lies past them.
-pub(crate) fn copy_records<R: Record>(bytes: &[u8], count: usize, out: &mut [u8])
-    requires { (length bytes.now ≡ count * R.Record.size) × (length bytes.now ≤ length out.old) }
-    ensures { out.new ≡ bytes.now ++ drop (length bytes.now) out.old }
-{
-    let size = R::size();
-    for i in 0..count {
-        let at = i * size;
-        R::decode(&bytes[at..at + size]).encode(&mut out[at..at + size]);
+    for (i, record) in Records::new(bytes).iter().enumerate() {
+        out[i] = record;
     }
 }
 
 // The record at an index, or none past the last.
-pub(crate) fn record_at<R: Record>(bytes: &[u8], index: usize) -> Option<R>
-    ensures { result ≡ record_in R.Record.decoded R.Record.size bytes.now index }
+fn record_at<R: Record>(bytes: &[u8], index: usize) -> Option<R>
+    ensures { result ≡ record_in R.Record.decoded R.Record.SIZE bytes.now index }
 {
-    let size = R::size();
-    if index >= bytes.len() / size {
+    if index >= bytes.len() / R::SIZE {
         return None;
     }
-    let at = index * size;
-    Some(R::decode(&bytes[at..at + size]))
+    let at = index * R::SIZE;
+    Some(R::decode(&bytes[at..at + R::SIZE]))
+}
+
+// The first record, with the bytes behind it, or none where there are fewer bytes than a record has.
+fn first_record<R: Record>(bytes: &[u8]) -> Option<(R, &[u8])>
+    ensures { MatchOption result (records_in R.Record.decoded R.Record.SIZE bytes.now ≡ []) (λ p. records_in R.Record.decoded R.Record.SIZE bytes.now ≡ p.0 ∷ records_in R.Record.decoded R.Record.SIZE p.1.now) }
+{
+    let (record, rest) = bytes.split_at_checked(R::SIZE)?;
+    Some((R::decode(record), rest))
+}
+
+// Records of one type, one after the other in their bytes.
+#[derive(Clone, Copy)]
+pub struct Records<'a, R> {
+    pub bytes: &'a [u8],
+    of: PhantomData<R>,
+}
+
+impl<'a, R: Record> Records<'a, R> {
+    // The records that the bytes stand for.
+    pub(crate) fn new(bytes: &'a [u8]) -> Records<'a, R>
+        ensures { result.bytes.now ≡ bytes.now }
+    {
+        Records {
+            bytes,
+            of: PhantomData,
+        }
+    }
+
+    // How many records there are.
+    pub fn len(&self) -> usize
+        ensures { result ≡ length self.now.bytes.now / R.Record.SIZE }
+    {
+        self.bytes.len() / R::SIZE
+    }
+
+    // The record at an index, or none past the last.
+    pub fn get(&self, index: usize) -> Option<R>
+        ensures { result ≡ record_in R.Record.decoded R.Record.SIZE self.now.bytes.now index }
+    {
+        record_at(self.bytes, index)
+    }
+
+    // The records from the first to the last.
+    pub fn iter(&self) -> RecordIter<'a, R>
+        ensures bytes { result.bytes.now ≡ self.now.bytes.now }
+        ensures few { length (records_in R.Record.decoded R.Record.SIZE self.now.bytes.now) < 2 ^ 64 }
+    {
+        // What a slice's length can be is known once it is read.
+        let _len = self.bytes.len();
+        RecordIter {
+            bytes: self.bytes,
+            of: PhantomData,
+        }
+    }
+}
+
+// The records that are left of a list, from the first on.
+#[derive(Clone, Copy)]
+pub struct RecordIter<'a, R> {
+    pub bytes: &'a [u8],
+    of: PhantomData<R>,
+}
+
+impl<'a, R: Record> Iterator for RecordIter<'a, R> {
+    type Item = R;
+
+    ghost next_gives = { YieldsFirst (λ s. records_in R.Record.decoded R.Record.SIZE s.bytes.now) };
+
+    ghost remaining = { item_count (λ s. records_in R.Record.decoded R.Record.SIZE s.bytes.now) };
+
+    fn next(&mut self) -> Option<R> {
+        let (record, rest) = first_record(self.bytes)?;
+        self.bytes = rest;
+        Some(record)
+    }
 }
 
 impl Record for u32 {
-    ghost size = { 4 };
+    ghost SIZE = { 4 };
 
     ghost encoded = { word32 };
 
@@ -119,9 +225,7 @@ impl Record for u32 {
 
     ghost again = { number_again };
 
-    fn size() -> usize {
-        4
-    }
+    const SIZE: usize = 4;
 
     fn encode(self, out: &mut [u8]) {
         out.copy_from_slice(&self.to_be_bytes());
@@ -133,7 +237,7 @@ impl Record for u32 {
 }
 
 impl Record for ReadingRecord {
-    ghost size = { reading_size };
+    ghost SIZE = { reading_size };
 
     ghost encoded = { encoded_reading };
 
@@ -149,9 +253,7 @@ impl Record for ReadingRecord {
 
     ghost again = { reading_again };
 
-    fn size() -> usize {
-        READING
-    }
+    const SIZE: usize = READING;
 
     fn encode(self, out: &mut [u8]) {
         let [d1, d0] = self.day.to_be_bytes();
@@ -169,8 +271,18 @@ impl Record for ReadingRecord {
     }
 }
 
+impl Listed for ReadingRecord {
+    ghost KIND = { kind.Readings };
+
+    ghost sized = { λ _. refl };
+
+    ghost plain = { λ _. refl };
+
+    const KIND: Kind = Kind::Readings;
+}
+
 impl Record for Line {
-    ghost size = { line_size };
+    ghost SIZE = { line_size };
 
     ghost encoded = { encoded_line };
 
@@ -186,9 +298,7 @@ impl Record for Line {
 
     ghost again = { line_again };
 
-    fn size() -> usize {
-        LINE
-    }
+    const SIZE: usize = LINE;
 
     fn encode(self, out: &mut [u8]) {
         let [d1, d0] = self.day.to_be_bytes();
@@ -221,8 +331,18 @@ impl Record for Line {
     }
 }
 
+impl Listed for Line {
+    ghost KIND = { kind.Statement };
+
+    ghost sized = { λ _. refl };
+
+    ghost plain = { λ _. refl };
+
+    const KIND: Kind = Kind::Statement;
+}
+
 impl Record for AllocationRow {
-    ghost size = { row_size };
+    ghost SIZE = { row_size };
 
     ghost encoded = { encoded_row };
 
@@ -238,9 +358,7 @@ impl Record for AllocationRow {
 
     ghost again = { row_again };
 
-    fn size() -> usize {
-        ROW
-    }
+    const SIZE: usize = ROW;
 
     fn encode(self, out: &mut [u8]) {
         out[0] = self.method;
@@ -260,15 +378,15 @@ impl Record for AllocationRow {
 }
 
 // The numbers before a schedule's rows.
-#[derive(Clone, Copy)]
-pub(crate) struct Intro {
-    pub(crate) sender: u16,
-    pub(crate) day: u16,
-    pub(crate) moment: u32,
+#[derive(Clone, Copy, PartialEq, Eq, Debug)]
+pub struct Intro {
+    pub sender: u16,
+    pub day: u16,
+    pub moment: u32,
 }
 
 impl Record for Intro {
-    ghost size = { intro_size };
+    ghost SIZE = { intro_size };
 
     ghost encoded = { encoded_intro };
 
@@ -284,9 +402,7 @@ impl Record for Intro {
 
     ghost again = { intro_again };
 
-    fn size() -> usize {
-        INTRO
-    }
+    const SIZE: usize = INTRO;
 
     fn encode(self, out: &mut [u8]) {
         let [s1, s0] = self.sender.to_be_bytes();

@@ -1,16 +1,147 @@
 // Writing: files of the three kinds from records, the notice, and an accepted file again.
 
-ghost use Rattle.std.specs.Prelude.{◌≡◌, ◌+◌, ◌*◌, ◌<◌, ◌≤◌, ◌++◌, length, take, IfOk, Ok, OnOk};
+ghost use Rattle.std.specs.Prelude.{◌≡◌, ℕ, ◌+◌, ◌*◌, ◌<◌, ◌≤◌, List, ◌++◌, length, take, IfOk, Ok, OnOk, ⊤};
 ghost use Rattle.std.specs.List.{flat_map, AllByRecursion};
 ghost use Rattle.files.specs.Records.{encoded_intro, WholeIntro, encoded_row, WholeRow};
-ghost use Rattle.files.specs.Formats.{kind_number, header_of, statement_size};
+ghost use Rattle.files.specs.Formats.{kind_number, body_size, header_of, statement_size};
 ghost use Rattle.files.specs.Contents.{of_schedule, of_readings, of_statement, file_of, content_read, rewritten, writing, rewriting, over, settled, notice_of};
 ghost use Rattle.files.specs.declared.formats.Kind.TheVariants as kind;
 
-use crate::formats::{HEADER, INTRO, Kind, NOTICE, VERSION, write_header};
-use crate::reader::{File, ReadingsFile, ScheduleFile, StatementFile, read};
-use crate::records::{Intro, ReadingRecord, Record, copy_records, write_records};
+use crate::formats::{HEADER, INTRO, Kind, NOTICE, OfKind, header, write_header};
+use crate::reader::{File, ListFile, ScheduleFile, read};
+use crate::records::{Intro, Listed, ReadingRecord, Record, copy_records, write_records};
 use domain::{AllocationRow, Fault, Line};
+
+// What stands behind the header of a file that is to be written.
+trait Body: OfKind {
+    // how many records it has, and its bytes
+    ghost count: { Self → ℕ };
+
+    ghost bytes: { Self → List ℕ };
+
+    // what writing it takes for granted, and what is known once it is written
+    ghost sound: { Self → Type 0 };
+
+    ghost whole: { Self → Type 0 };
+
+    // How many records it has.
+    fn count(self) -> usize
+        ensures { result ≡ count self };
+
+    // Writes its bytes, and leaves what lies past them.
+    fn put(self, out: &mut [u8])
+        requires sound { sound self }
+        requires room { body_size Self.KIND (count self) ≤ length out.old }
+        ensures after { out.new ≡ over (bytes self) out.old }
+        ensures fits { whole self };
+}
+
+// A list of records.
+#[derive(Clone, Copy)]
+struct List<'a, R>(&'a [R]);
+
+impl<'a, R: Listed> OfKind for List<'a, R> {
+    ghost KIND = { R.Listed.KIND };
+
+    fn kind() -> Kind
+        ensures { result ≡ R.Listed.KIND }
+    {
+        R::KIND
+    }
+}
+
+impl<'a, R: Listed> Body for List<'a, R> {
+    ghost count = { λ list. length list.0.now };
+
+    ghost bytes = { λ list. flat_map R.Record.encoded list.0.now };
+
+    ghost sound = { λ _. ⊤ };
+
+    ghost whole = { λ list. AllByRecursion R.Record.whole list.0.now };
+
+    fn count(self) -> usize {
+        self.0.len()
+    }
+
+    fn put(self, out: &mut [u8]) {
+        write_records(self.0, out);
+    }
+}
+
+// A day's rows, with the numbers before them.
+#[derive(Clone, Copy)]
+struct Schedule<'a> {
+    intro: Intro,
+    rows: &'a [AllocationRow],
+}
+
+impl<'a> OfKind for Schedule<'a> {
+    ghost KIND = { kind.Schedule };
+
+    fn kind() -> Kind
+        ensures { result ≡ kind.Schedule }
+    {
+        Kind::Schedule
+    }
+}
+
+impl<'a> Body for Schedule<'a> {
+    ghost count = { λ schedule. length schedule.rows.now };
+
+    ghost bytes = { λ schedule. encoded_intro schedule.intro ++ flat_map encoded_row schedule.rows.now };
+
+    ghost sound = { λ _. ⊤ };
+
+    ghost whole = { λ schedule. WholeIntro schedule.intro × AllByRecursion WholeRow schedule.rows.now };
+
+    fn count(self) -> usize {
+        self.rows.len()
+    }
+
+    fn put(self, out: &mut [u8]) {
+        self.intro.encode(&mut out[..INTRO]);
+        write_records(self.rows, &mut out[INTRO..]);
+    }
+}
+
+// A file that holds a list of records, whose records are written again.
+impl<'a, R: Listed> Body for ListFile<'a, R> {
+    ghost count = { λ file. file.count };
+
+    ghost bytes = { λ file. file.records.bytes.now };
+
+    ghost sound = { λ file. length file.records.bytes.now ≡ file.count * R.Record.SIZE };
+
+    ghost whole = { λ _. ⊤ };
+
+    fn count(self) -> usize {
+        usize::from(self.count)
+    }
+
+    fn put(self, out: &mut [u8]) {
+        copy_records::<R>(self.records.bytes, out);
+    }
+}
+
+// A schedule that was read, whose rows are written again.
+impl<'a> Body for ScheduleFile<'a> {
+    ghost count = { λ file. file.count };
+
+    ghost bytes = { λ file. encoded_intro file.intro ++ file.rows.bytes.now };
+
+    ghost sound = { λ file. length file.rows.bytes.now ≡ file.count * 34 };
+
+    ghost whole = { λ _. ⊤ };
+
+    fn count(self) -> usize {
+        usize::from(self.count)
+    }
+
+    fn put(self, out: &mut [u8]) {
+        self.intro.encode(&mut out[..INTRO]);
+        copy_records::<AllocationRow>(self.rows.bytes, &mut out[INTRO..]);
+    }
+}
 
 // Judges the count, then the room, and answers the bytes that are to be written.
 fn admit(kind: Kind, count: usize, room: usize) -> Result<usize, Fault>
@@ -26,15 +157,18 @@ fn admit(kind: Kind, count: usize, room: usize) -> Result<usize, Fault>
     Ok(needed)
 }
 
-// Writes a header and the records behind it, and leaves what lies past them.
-fn write_list<R: Record>(kind: Kind, records: &[R], out: &mut [u8])
-    requires few { length records.now < 65536 }
-    requires room { 8 + length records.now * R.Record.size ≤ length out.old }
-    ensures after { out.new ≡ over (header_of (kind_number kind) (length records.now) ++ flat_map R.Record.encoded records.now) out.old }
-    ensures fits { AllByRecursion R.Record.whole records.now }
+// Writes a file, and answers its bytes.
+fn write_file<B: Body>(body: B, out: &mut [u8]) -> Result<usize, Fault>
+    requires { B.Body.sound body }
+    ensures result { result ≡ writing B.OfKind.KIND (B.Body.count body) (length out.old) }
+    ensures after { out.new ≡ settled result (header_of (kind_number B.OfKind.KIND) (B.Body.count body) ++ B.Body.bytes body) out.old }
+    ensures fits { OnOk result (B.Body.whole body) }
 {
-    write_header(kind, records.len() as u16, out);
-    write_records(records, &mut out[HEADER..]);
+    let count = body.count();
+    let written = admit(B::kind(), count, out.len())?;
+    write_header(B::kind(), count as u16, out);
+    body.put(&mut out[HEADER..]);
+    Ok(written)
 }
 
 // Writes a readings file, and answers its bytes.
@@ -43,9 +177,7 @@ pub fn write_readings(records: &[ReadingRecord], out: &mut [u8]) -> Result<usize
     ensures after { out.new ≡ settled result (file_of (of_readings records.now)) out.old }
     ensures back { IfOk result (λ n. content_read (take n out.new) ≡ Ok (of_readings records.now)) }
 {
-    let written = admit(Kind::Readings, records.len(), out.len())?;
-    write_list(Kind::Readings, records, out);
-    Ok(written)
+    write_file(List(records), out)
 }
 
 // Writes a statement, and answers its bytes.
@@ -54,19 +186,7 @@ pub fn write_statement(lines: &[Line], out: &mut [u8]) -> Result<usize, Fault>
     ensures after { out.new ≡ settled result (file_of (of_statement lines.now)) out.old }
     ensures back { IfOk result (λ n. content_read (take n out.new) ≡ Ok (of_statement lines.now)) }
 {
-    let written = admit(Kind::Statement, lines.len(), out.len())?;
-    write_list(Kind::Statement, lines, out);
-    Ok(written)
-}
-
-// Writes the numbers before a schedule's rows and the rows behind them, and leaves what lies past them.
-fn write_rows(intro: Intro, rows: &[AllocationRow], out: &mut [u8])
-    requires { 8 + length rows.now * 34 ≤ length out.old }
-    ensures after { out.new ≡ over (encoded_intro intro ++ flat_map encoded_row rows.now) out.old }
-    ensures fits { WholeIntro intro × AllByRecursion WholeRow rows.now }
-{
-    intro.encode(&mut out[0..INTRO]);
-    write_records(rows, &mut out[INTRO..]);
+    write_file(List(lines), out)
 }
 
 // Writes a schedule, and answers its bytes.
@@ -81,18 +201,12 @@ pub fn write_schedule(
     ensures after { out.new ≡ settled result (file_of (of_schedule sender day moment rows.now)) out.old }
     ensures back { IfOk result (λ n. content_read (take n out.new) ≡ Ok (of_schedule sender day moment rows.now)) }
 {
-    let written = admit(Kind::Schedule, rows.len(), out.len())?;
-    write_header(Kind::Schedule, rows.len() as u16, out);
-    write_rows(
-        Intro {
-            sender,
-            day,
-            moment,
-        },
-        rows,
-        &mut out[HEADER..],
-    );
-    Ok(written)
+    let intro = Intro {
+        sender,
+        day,
+        moment,
+    };
+    write_file(Schedule { intro, rows }, out)
 }
 
 // The bytes of a statement of so many lines.
@@ -106,33 +220,13 @@ pub fn statement_bytes(lines: u16) -> usize
 pub fn notice(day: u16, sender: u16, moment: u32) -> [u8; 16]
     ensures { result ≡ notice_of day sender moment }
 {
-    let [v1, v0] = VERSION.to_be_bytes();
+    let [h0, h1, h2, h3, h4, h5, h6, h7] = header(NOTICE, 1);
     let [d1, d0] = day.to_be_bytes();
     let [s1, s0] = sender.to_be_bytes();
     let [m3, m2, m1, m0] = moment.to_be_bytes();
     [
-        b'S', b'S', b'M', v1, v0, NOTICE, 0, 1, d1, d0, s1, s0, m3, m2, m1, m0,
+        h0, h1, h2, h3, h4, h5, h6, h7, d1, d0, s1, s0, m3, m2, m1, m0,
     ]
-}
-
-// Writes a header and, behind it, the records that the bytes stand for.
-fn copy_list<R: Record>(kind: Kind, count: u16, bytes: &[u8], out: &mut [u8])
-    requires long { length bytes.now ≡ count * R.Record.size }
-    requires room { 8 + length bytes.now ≤ length out.old }
-    ensures { out.new ≡ over (header_of (kind_number kind) count ++ bytes.now) out.old }
-{
-    write_header(kind, count, out);
-    copy_records::<R>(bytes, count as usize, &mut out[HEADER..]);
-}
-
-// Writes the numbers before a schedule's rows and, behind them, the rows that the bytes stand for.
-fn copy_rows(intro: Intro, count: u16, bytes: &[u8], out: &mut [u8])
-    requires long { length bytes.now ≡ count * 34 }
-    requires room { 8 + length bytes.now ≤ length out.old }
-    ensures { out.new ≡ over (encoded_intro intro ++ bytes.now) out.old }
-{
-    intro.encode(&mut out[0..INTRO]);
-    copy_records::<AllocationRow>(bytes, count as usize, &mut out[INTRO..]);
 }
 
 // Reads a file, and writes its records again. What is written is the file itself, byte for byte.
@@ -141,38 +235,9 @@ pub fn rewrite(file: &[u8], out: &mut [u8]) -> Result<usize, Fault>
     ensures after { out.new ≡ settled result file.now out.old }
     ensures again { OnOk result (rewritten file.now ≡ Ok file.now) }
 {
-    let kept = read(file)?;
-    if file.len() > out.len() {
-        return Err(Fault::OutputTooShort { needed: file.len() });
+    match read(file)? {
+        File::Schedule(schedule) => write_file(schedule, out),
+        File::Readings(readings) => write_file(readings, out),
+        File::Statement(statement) => write_file(statement, out),
     }
-    match kept {
-        File::Schedule(
-            ScheduleFile {
-                count,
-                sender,
-                day,
-                moment,
-                rows,
-            },
-        ) => {
-            write_header(Kind::Schedule, count, out);
-            copy_rows(
-                Intro {
-                    sender,
-                    day,
-                    moment,
-                },
-                count,
-                rows,
-                &mut out[HEADER..],
-            );
-        }
-        File::Readings(ReadingsFile { count, records }) => {
-            copy_list::<ReadingRecord>(Kind::Readings, count, records, out);
-        }
-        File::Statement(StatementFile { count, lines }) => {
-            copy_list::<Line>(Kind::Statement, count, lines, out);
-        }
-    }
-    Ok(file.len())
 }

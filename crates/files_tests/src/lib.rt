@@ -9,14 +9,12 @@ mod tests {
         rewrite, write_readings, write_schedule, write_statement,
     };
     use listing::listing;
+    use std::alloc::{AllocError, Global};
     use std::test::Fail;
 
     // The refusal of a file of any kind, or none where it is accepted.
     fn refusal(file: &[u8]) -> Option<Fault> {
-        match read(file) {
-            Ok(_) => None,
-            Err(fault) => Some(fault),
-        }
+        read(file).err()
     }
 
     // A header of the version that is read.
@@ -104,20 +102,24 @@ mod tests {
         );
     }
 
+    // The longest readings file, of zeros alone, under a header with this count.
+    fn longest_readings(heap: Global, count: u16) -> Result<Vec<u8>, AllocError> {
+        let mut file = Vec::new(heap);
+        file.extend_from_slice(&header(2, count))?;
+        for _ in 0..4_096 * 8 {
+            file.push(0)?;
+        }
+        Ok(file)
+    }
+
     #[test]
     fn counts_of_readings(rt: HostRuntime) -> Result<(), Fail> {
-        let mut file = vec![in rt.alloc(); 0; 8 + 4_096 * 8]?;
-        assert_eq!(rt; read_readings(&header(2, 0)).is_ok(), true);
-        for (at, byte) in header(2, 4_096).iter().enumerate() {
-            assert!(rt; at < file.len());
-            file[at] = *byte;
-        }
-        assert_eq!(rt; refusal(file.as_slice()), None);
+        assert!(rt; read_readings(&header(2, 0)).is_ok());
         assert_eq!(rt; refusal(&header(2, 4_097)), Some(Fault::CountNotAllowed));
-        assert!(rt; 7 < file.len());
-        file[7] = 1;
-        assert_eq!(rt; refusal(file.as_slice()), Some(Fault::CountNotAllowed));
-        file[7] = 0;
+        let long = longest_readings(rt.alloc(), 4_097)?;
+        assert_eq!(rt; refusal(long.as_slice()), Some(Fault::CountNotAllowed));
+        let mut file = longest_readings(rt.alloc(), 4_096)?;
+        assert_eq!(rt; refusal(file.as_slice()), None);
         file.push(0)?;
         let length = file.len();
         assert_eq!(rt;
@@ -135,12 +137,10 @@ mod tests {
             write_statement(lines.as_slice(), out.as_mut_slice()),
             Ok(MAX_FILE)
         );
-        let Ok(file) = read_statement(out.as_slice()) else {
-            return Err(Fail::new("refused"));
-        };
+        let file = read_statement(out.as_slice())?;
         assert_eq!(rt; file.count, 4_096);
-        assert_eq!(rt; file.line(4_095), Some(LINE));
-        assert_eq!(rt; file.line(4_096), None);
+        assert_eq!(rt; file.records.get(4_095), Some(LINE));
+        assert_eq!(rt; file.records.get(4_096), None);
         let more = vec![in rt.alloc(); LINE; 4_097]?;
         assert_eq!(rt;
             write_statement(more.as_slice(), out.as_mut_slice()),
@@ -154,12 +154,12 @@ mod tests {
         let mut out = [9; 25];
         assert_eq!(rt; write_readings(&[READING, READING], &mut out), Ok(24));
         assert_eq!(rt; out[24], 9);
-        let Ok(File::Readings(file)) = read(&out[0..24]) else {
-            return Err(Fail::new("refused"));
+        let File::Readings(file) = read(&out[0..24])? else {
+            return Err(Fail::new("another kind"));
         };
-        assert_eq!(rt; file.reading(0), Some(READING));
-        assert_eq!(rt; file.reading(1), Some(READING));
-        assert_eq!(rt; file.reading(2), None);
+        assert_eq!(rt; file.records.get(0), Some(READING));
+        assert_eq!(rt; file.records.get(1), Some(READING));
+        assert_eq!(rt; file.records.get(2), None);
         assert_eq!(rt; write_readings(&[], &mut out), Ok(8));
         Ok(())
     }
@@ -170,12 +170,11 @@ mod tests {
         let mut out = [9; 1_649];
         assert_eq!(rt; write_schedule(101, 2, 4_260, &rows, &mut out), Ok(1_648));
         assert_eq!(rt; out[1_648], 9);
-        let Ok(file) = read_schedule(&out[0..1_648]) else {
-            return Err(Fail::new("refused"));
-        };
-        assert_eq!(rt; (file.sender, file.day, file.moment), (101, 2, 4_260));
-        assert_eq!(rt; file.row(47), Some(ROW));
-        assert_eq!(rt; file.row(48), None);
+        let file = read_schedule(&out[0..1_648])?;
+        let intro = file.intro;
+        assert_eq!(rt; (intro.sender, intro.day, intro.moment), (101, 2, 4_260));
+        assert_eq!(rt; file.rows.get(47), Some(ROW));
+        assert_eq!(rt; file.rows.get(48), None);
         assert_eq!(rt;
             refusal(&out[0..1_647]),
             Some(Fault::AnotherLength { length: 1_647 })
@@ -207,9 +206,7 @@ mod tests {
             write_schedule(1, 0, 0, &[], &mut out),
             Err(Fault::CountNotAllowed)
         );
-        for byte in &out {
-            assert_eq!(rt; *byte, 9);
-        }
+        assert!(rt; out == [9; 1_647]);
     }
 
     #[test]
@@ -234,6 +231,21 @@ mod tests {
         let expected = *b"SSM\0\x01\x04\0\x01\0\x02\0\x65\0\0\x10\xa4";
         assert_eq!(rt; notice(2, 101, 4_260), expected);
         assert_eq!(rt; refusal(&expected), Some(Fault::AnotherKind));
+    }
+
+    #[test]
+    fn records_counted_and_gone_over(rt: HostRuntime) -> Result<(), Fail> {
+        let mut out = [0; 24];
+        assert_eq!(rt; write_readings(&[READING, READING], &mut out), Ok(24));
+        let file = read_readings(&out)?;
+        assert_eq!(rt; file.records.len(), 2);
+        assert_eq!(rt; file.records.iter().count(), 2);
+        for reading in file.records.iter() {
+            assert_eq!(rt; reading, READING);
+        }
+        let text = format!(in rt.alloc(); "{READING}")?;
+        assert_eq!(rt; text.as_str(), "61 13 2 9999999");
+        Ok(())
     }
 
     #[test]

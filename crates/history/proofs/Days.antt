@@ -1,15 +1,21 @@
 -- The puts of one day, item by item.
-use Rattle.std.proofs.Common.{◌≡◌, ℕ, zero, suc, ◌+◌, ◌<◌, ◌≤◌, Bool, true, false, cond, List, [], ◌∷◌, ◌++◌, length, get_or, take, drop, is_some, Option, sym, refl, ap, ◌∙◌, arith}
-use Rattle.std.proofs.lemmas.List.{take_more, length-take-le, take-append-drop}
+use Rattle.std.proofs.Common.{◌≡◌, subst, min, not, count_by, None, ℕ, zero, suc, ◌+◌, ◌<◌, ◌≤◌, Bool, true, false, cond, List, [], ◌∷◌, ◌++◌, length, get_or, take, drop, is_some, Option, sym, refl, ap, ◌∙◌, arith}
+use Rattle.std.proofs.lemmas.List.{take_more, take_all, take_min, length-take, length-take-le, take-append-drop}
+use Rattle.std.proofs.lemmas.List.Sums.{count_by_more_yes, count_by_more_no}
+use Rattle.domain.specs.Limits.{periods}
 use Rattle.history.specs.Entries.{found}
 use Rattle.history.specs.Puts.{put_one, put_all, on_day, holding}
 use Rattle.history.specs.declared.Dated.{Dated}
 use Rattle.history.proofs.Putting.{length_put, put_longer, found_day_other}
 use Rattle.history.proofs.Placing.{take-holding, holding_again}
 
-pub one_at_most : (b : Bool) → cond b 0 1 ≤ 1
-one_at_most true = omega arith
-one_at_most false = omega arith
+-- how many of those up to i are none, and of one more
+count_more : (at : List (Option ℕ)) (i : ℕ) → i < length at → count_by (λ o. not (is_some o)) (take (i + 1) at) ≡ count_by (λ o. not (is_some o)) (take i at) + cond (is_some (get_or at i None)) 0 1
+count_more at i within = go (is_some (get_or at i None)) refl
+  where
+    go : (b : Bool) → is_some (get_or at i None) ≡ b → count_by (λ o. not (is_some o)) (take (i + 1) at) ≡ count_by (λ o. not (is_some o)) (take i at) + cond b 0 1
+    go true e = count_by_more_no (λ (o : Option ℕ). not (is_some o)) at i None within (ap not e) ∙ (omega arith)
+    go false e = count_by_more_yes (λ (o : Option ℕ). not (is_some o)) at i None within (ap not e)
 
 -- an element of the list, at an index within it
 item_at : {X : Type 0} (xs : List X) (i : ℕ) → i < length xs → (x : X) × (x ≡ get_or xs i x)
@@ -65,6 +71,28 @@ module _ {T : Type 0} where
         let h = put_all t (on_day d 1 (take i items)) in
         ap length (day_step i at.0 within at.1) ∙ length_put h (record { subject = i + 1; day = d; entry = at.0 }) ∙ ap (λ (o : Option ℕ). length h + cond (is_some o) 0 1) (day_before i (omega arith))
 
+    -- as many more are held as there are items whose entries are not found
+    pub day_needed : (at : List (Option ℕ)) → ((k : ℕ) → k < length items → get_or at k None ≡ found t (k + 1) d) → length items ≤ length at → (i : ℕ) → i ≤ length items → length (put_all t (on_day d 1 (take i items))) ≡ length t + count_by (λ o. not (is_some o)) (take i at)
+    day_needed at is few zero h = ap length day_none ∙ (omega arith)
+    day_needed at is few (suc i) h =
+        let within : i < length items = omega arith in
+        let before = day_needed at is few i (omega arith) in
+        let step = day_count i within in
+        let new = count_more at i (omega arith) in
+        let same : cond {A = ℕ} (is_some (get_or at i None)) 0 1 ≡ cond {A = ℕ} (is_some (found t (i + 1) d)) 0 1 = ap (λ (o : Option ℕ). cond {A = ℕ} (is_some o) 0 1) (is i within) in
+        let P : ℕ → Type 0 = λ n. length (put_all t (on_day d 1 (take n items))) ≡ length t + count_by (λ o. not (is_some o)) (take n at) in
+        let next : i + 1 ≡ suc i = omega arith in
+        let more : P (i + 1) = omega arith in
+        subst P next more
+
+    -- the same for all of them
+    pub all_needed : (at : List (Option ℕ)) {count n : ℕ} → ((k : ℕ) → k < length items → get_or at k None ≡ found t (k + 1) d) → length items ≤ length at → count ≡ length t → n ≡ count_by (λ o. not (is_some o)) (take (length items) at) → count + n ≡ length (put_all t (on_day d 1 items))
+    all_needed at is few held counted =
+        let all : take (length items) items ≡ items = take_all (length items) items (omega arith) in
+        let needed = day_needed at is few (length items) (omega arith) in
+        let same : length (put_all t (on_day d 1 (take (length items) items))) ≡ length (put_all t (on_day d 1 items)) = ap (λ (l : List T). length (put_all t (on_day d 1 l))) all in
+        omega arith
+
     -- the entries held grow with the items
     pub day_grows : (i : ℕ) → i ≤ length items → length (put_all t (on_day d 1 (take i items))) ≤ length (put_all t (on_day d 1 items))
     day_grows i within =
@@ -107,3 +135,16 @@ module _ {T : Type 0} where
         turn_again count' after =
             let grows : length (held_at i) ≤ length (held_at (i + 1)) = omega (arith, day_count (take count e) d items i within) in
             (count' ∙ ap length turn_put, after ∙ ap (λ (h : List (Dated T)). holding h u) turn_put ∙ ap (holding (held_at (i + 1))) is ∙ holding_again (held_at i) (held_at (i + 1)) e grows)
+
+-- the items of a day, no more than it has periods, and how many entries are held once they are put
+module _ {T : Type 0} (all : List T) (m : ℕ) (first : m ≡ min periods (length all)) where
+  pub day_is : take m all ≡ take periods all
+  day_is = ap (λ (n : ℕ). take n all) first ∙ take_min periods all
+
+  pub day_few : length (take m all) ≤ periods
+  day_few = omega (arith, length-take m all, first)
+
+  pub needed_after : (e t : List (Dated T)) (count d n : ℕ) (at : List (Option ℕ)) → count ≤ length e → t ≡ take count e → length at ≡ periods → ((k : ℕ) → k < periods → get_or at k None ≡ found t (k + 1) d) → n ≡ count_by (λ o. not (is_some o)) (take (length (take m all)) at) → count + n ≡ length (put_all (take count e) (on_day d 1 (take m all)))
+  needed_after e t count d n at held is size each counted =
+      let few = day_few in
+      all_needed (take count e) d (take m all) at (λ k h. each k (omega arith) ∙ ap (λ (u : List (Dated T)). found u (k + 1) d) is) (omega arith) (sym (length-take-le count e held)) counted

@@ -8,3 +8,4 @@ pub mod Putting
 pub mod Changes
 pub mod Placing
 pub mod Days
+pub mod Numbered

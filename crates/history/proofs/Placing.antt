@@ -1,5 +1,6 @@
 -- A put as a write to the table.
 use Rattle.std.proofs.Common.{◌≡◌, ℕ, suc, ◌+◌, ◌-◌, ◌<◌, ◌≤◌, true, false, cond, ltb, List, [], ◌∷◌, ◌++◌, length, take, drop, set, is_some, IfSome, Some, None, Ok, Err, Option, Result, sym, refl, ap, ◌∙◌, ⊎_elim, arith, MatchOption}
+use Rattle.std.specs.Option.{unwrap_or}
 use Rattle.domain.specs.declared.Table.{Table}
 use Rattle.domain.specs.declared.Fault.{Fault}
 use Rattle.domain.specs.declared.Fault.TheVariants.{HistoryFull}
@@ -69,6 +70,11 @@ module _ {T : Type 0} where
         let long : length (t ++ x ∷ []) ≡ count + 1 = length_push t x ∙ ap (λ (n : ℕ). n + 1) size in
         let next : count + 1 ≡ suc count = omega arith in
         (ap length put ∙ long, λ l. set_split entries count x l ∙ sym (ap (λ (l : List (Dated T)). holding l entries) put ∙ ap (λ (n : ℕ). (t ++ x ∷ []) ++ drop n entries) (long ∙ next) ∙ append_assoc t (x ∷ []) (drop (suc count) entries)))
+
+    -- so it is written where it was found, or else behind them
+    pub put_there : (o : Option ℕ) → o ≡ found (take count entries) x.subject x.day → length (put_one (take count entries) x) ≤ length entries → (unwrap_or o count < length entries) × (set entries (unwrap_or o count) x ≡ holding (put_one (take count entries) x) entries)
+    put_there (Some i) is room = (found_in_table x.subject x.day i (sym is), (put_over i (sym is)).1)
+    put_there None is room = let put = put_behind (sym is) in (omega arith, put.1 (omega arith))
 
   -- the entries held can be read back
   pub take-holding : (h entries : List (Dated T)) (n : ℕ) → n ≡ length h → take n (holding h entries) ≡ h

@@ -1,15 +1,10 @@
 -- The entries of a history: where one stands, and which one is in force.
-use Rattle.std.specs.Prelude.{ℕ, suc, Bool, true, cond, ◌&&◌, List, [], ◌∷◌, Some, None, Option, ◌==◌, nat_le, nat_lt}
+use Rattle.std.specs.Prelude.{ℕ, suc, Bool, cond, ◌&&◌, List, [], ◌∷◌, Some, None, Option, ◌==◌, nat_le}
 use Rattle.std.specs.Option.{option_map}
 use Rattle.std.specs.List.{slice_get}
 use Rattle.domain.specs.Limits.{periods}
 use Rattle.history.specs.Latest.{latest}
 use Rattle.history.specs.declared.Dated.{Dated}
-
--- the day e is later than the best so far, which was put on the day D
-abbrev pub is_later : Option ℕ → ℕ → ℕ → Bool
-is_later None D e = true
-is_later (Some b) D e = nat_lt D e
 
 module _ {T : Type 0} where
   -- an entry of the subject s and the day d

@@ -1,18 +1,18 @@
 // Dated histories: what was put for a subject on a day, and what is in force on any other.
 #![tactic(auto)]
 
-ghost use Rattle.std.specs.Prelude.{◌≡◌, ℕ, ◌+◌, ◌^◌, ◌<◌, ◌≤◌, length, take, is_some, IfSome, if◌then◌else◌, Some, None, MatchOption, MatchResult, slice_index_or};
+ghost use Rattle.std.specs.Prelude.{◌≡◌, ℕ, ◌+◌, ◌^◌, ◌<◌, ◌≤◌, not, length, take, is_some, count_by, IfSome, Some, None, MatchOption, MatchResult, slice_index_or};
 ghost use Rattle.domain.specs.Limits.{periods};
 ghost use Rattle.domain.specs.declared.Fault.TheVariants.{Spoiled};
-ghost use Rattle.history.specs.Latest.{latest, or_else};
-ghost use Rattle.history.specs.Entries.{is_on, is_due, of_period, for_period, is_later, found, in_force, entry_at, keyed};
+ghost use Rattle.history.specs.Latest.{latest};
+ghost use Rattle.history.specs.Entries.{is_on, is_due, of_period, for_period, found, in_force, entry_at, keyed};
 ghost use Rattle.history.specs.Puts.{put_one, put_all, put_day, on_day, holding, holding_if, room_for};
 ghost use Rattle.history.specs.Questions.{InForce, NoneDue, FirstOn, NoneOn, AfterPut, AfterDay};
 
-use domain::{Fault, PERIODS, Table};
+use domain::{Fault, PERIODS, Table, is_period};
 
 // What was put for a subject on a day.
-#[derive(Clone, Copy)]
+#[derive(Clone, Copy, PartialEq, Eq, Debug)]
 pub struct Dated<T> {
     pub subject: u8,
     pub day: u16,
@@ -20,6 +20,17 @@ pub struct Dated<T> {
 }
 
 impl<T> Dated<T> {
+    // An entry of subject 0 and day 0 that no call has put, for blank tables.
+    pub fn blank(entry: T) -> Dated<T>
+        ensures { result ≡ record { subject = 0; day = 0; entry = entry } }
+    {
+        Dated {
+            subject: 0,
+            day: 0,
+            entry,
+        }
+    }
+
     fn is_on(&self, subject: u8, day: u16) -> bool
         ensures { result ≡ is_on subject day self.now }
     {
@@ -36,19 +47,20 @@ impl<T> Dated<T> {
     fn is_of_period(&self, day: u16) -> bool
         ensures { result ≡ of_period day self.now }
     {
-        1 <= self.subject && self.subject <= PERIODS && self.day == day
+        is_period(self.subject) && self.day == day
     }
 
     // Whether the subject is a Settlement Period, and the entry not after the day.
     fn is_for_period(&self, day: u16) -> bool
         ensures { result ≡ for_period day self.now }
     {
-        1 <= self.subject && self.subject <= PERIODS && self.day <= day
+        is_period(self.subject) && self.day <= day
     }
 }
 
 // The entries that a lent table holds.
 #[derive_where(Clone, Copy)]
+#[derive(PartialEq, Eq, Debug)]
 pub struct History<'a, T> {
     entries: &'a [Dated<T>],
 }
@@ -76,17 +88,25 @@ impl<'a, T> History<'a, T> {
         ensures within { IfSome result (λ i. i < length self.entry.entries.now) }
         ensures says { MatchOption result (NoneOn self.entry.entries.now subject day) (FirstOn self.entry.entries.now subject day) }
     {
-        first_on(self.entries, subject, day)
+        self.entries
+            .iter()
+            .position(|dated| dated.is_on(subject, day))
     }
 
-    // The index of the subject's entry of the latest day not after the given one, the first among equals.
+    // The index of the subject's entry of the latest day not after the given one, the first among equals. The index is the answer, so it is counted beside the entries.
     pub fn in_force(self, subject: u8, day: u16) -> Option<usize>
         ensures is { result ≡ in_force self.entry.entries.now subject day }
         ensures within { IfSome result (λ i. i < length self.entry.entries.now) }
         ensures entry { entry_at self.entry.entries.now result ≡ latest (keyed self.entry.entries.now subject) day }
         ensures says { MatchOption result (NoneDue self.entry.entries.now subject day) (InForce self.entry.entries.now subject day) }
     {
-        latest_due(self.entries, subject, day)
+        let mut best: Option<(usize, u16)> = None;
+        for (index, dated) in self.entries.iter().enumerate() {
+            if dated.is_due(subject, day) && best.is_none_or(|(_, latest)| latest < dated.day) {
+                best = Some((index, dated.day));
+            }
+        }
+        best.map(|(index, _)| index)
     }
 
     // The same for each Settlement Period as the subject, the first for period 1, in one pass over the entries.
@@ -95,68 +115,45 @@ impl<'a, T> History<'a, T> {
         ensures within { (k : ℕ) → k < periods → IfSome (slice_index_or result k None) (λ i. i < length self.entry.entries.now) }
         ensures size { length result ≡ periods }
     {
-        latest_each(self.entries, day)
-    }
-}
-
-// A history's methods hand its slice on to the searches below. Each is one pass.
-fn first_on<T>(entries: &[Dated<T>], subject: u8, day: u16) -> Option<usize>
-    ensures { result ≡ found entries.now subject day }
-{
-    for (i, dated) in entries.iter().enumerate() {
-        if dated.is_on(subject, day) {
-            return Some(i);
-        }
-    }
-    None
-}
-
-fn latest_due<T>(entries: &[Dated<T>], subject: u8, day: u16) -> Option<usize>
-    ensures { result ≡ in_force entries.now subject day }
-{
-    let mut best = None;
-    let mut latest = 0;
-    for (i, dated) in entries.iter().enumerate() {
-        let due = dated.is_due(subject, day);
-        let later = best.is_none() || dated.day > latest;
-        if due && later {
-            best = Some(i);
-            latest = dated.day;
-        }
-    }
-    best
-}
-
-fn latest_each<T>(entries: &[Dated<T>], day: u16) -> [Option<usize>; DAY_ITEMS]
-    ensures each { (k : ℕ) → k < periods → slice_index_or result k None ≡ in_force entries.now (k + 1) day }
-    ensures size { length result ≡ periods }
-{
-    let mut best = [None; DAY_ITEMS];
-    let mut latest = [0; DAY_ITEMS];
-    for (i, dated) in entries.iter().enumerate() {
-        let due = dated.is_for_period(day);
-        if due {
-            let k = usize::from(dated.subject) - 1;
-            let later = is_later(best[k], latest[k], dated.day);
-            if later {
-                best[k] = Some(i);
-                latest[k] = dated.day;
+        let mut bests: [Option<(usize, u16)>; DAY_ITEMS] = [None; DAY_ITEMS];
+        for (index, dated) in self.entries.iter().enumerate() {
+            if dated.is_for_period(day) {
+                let k = usize::from(dated.subject) - 1;
+                if bests[k].is_none_or(|(_, latest)| latest < dated.day) {
+                    bests[k] = Some((index, dated.day));
+                }
             }
         }
+        bests.map(|best| best.map(|(index, _)| index))
     }
-    best
+
+    // For each Settlement Period as the subject, the index of its first entry of the day, in one pass. One function for this and `in_force_each` would take the test and the choice as closures, and be no plainer.
+    fn find_each(self, day: u16) -> [Option<usize>; DAY_ITEMS]
+        ensures each { (k : ℕ) → k < periods → slice_index_or result k None ≡ found self.entry.entries.now (k + 1) day }
+        ensures size { length result ≡ periods }
+    {
+        let mut at = [None; DAY_ITEMS];
+        for (index, dated) in self.entries.iter().enumerate() {
+            if dated.is_of_period(day) {
+                let k = usize::from(dated.subject) - 1;
+                at[k] = at[k].or(Some(index));
+            }
+        }
+        at
+    }
 }
 
-// Whether a day is later than the best so far, which was put on the day `latest`.
-fn is_later(best: Option<usize>, latest: u16, day: u16) -> bool
-    ensures { result ≡ is_later best latest day }
-{
-    match best {
-        Some(_) => latest < day,
-        None => true,
+impl<T: Copy> History<'_, T> {
+    // The entry that is in force for the subject on the day.
+    pub fn entry_in_force(self, subject: u8, day: u16) -> Option<T>
+        ensures { result ≡ entry_at self.entry.entries.now (in_force self.entry.entries.now subject day) }
+    {
+        let index = self.in_force(subject, day)?;
+        Some(self.entries[index].entry)
     }
 }
 
+// Calls are lent their tables and told how many entries are held, since a book keeps only the counts.
 // Puts an entry into a table of `count` entries, over the first of its subject and day or else behind the others, and answers the new count.
 pub fn put<T: Copy>(
     entries: &mut [Dated<T>],
@@ -170,22 +167,11 @@ pub fn put<T: Copy>(
 {
     let held = History::held(entries, count, table)?;
     let at = held.find(dated.subject, dated.day);
-    let needed = count_after(count, at);
+    let needed = count + usize::from(at.is_none());
     if needed > entries.len() {
         return Err(Fault::HistoryFull { needed });
     }
     Ok(place(entries, count, at, dated))
-}
-
-// How many entries are held after a put that found an entry to replace, or none.
-fn count_after(count: usize, at: Option<usize>) -> usize
-    requires { count + 1 < 2 ^ 64 }
-    ensures { result ≡ count + (if is_some at then 0 else 1) }
-{
-    match at {
-        Some(_) => count,
-        None => count + 1,
-    }
 }
 
 // Writes the entry over the one that was found, or behind those held, and says how many are held then.
@@ -201,16 +187,8 @@ fn place<T: Copy>(
     ensures count { result ≡ length (put_one (take count entries.old) dated) }
     ensures after { entries.new ≡ holding (put_one (take count entries.old) dated) entries.old }
 {
-    match at {
-        Some(i) => {
-            entries[i] = dated;
-            count
-        }
-        None => {
-            entries[count] = dated;
-            count + 1
-        }
-    }
+    entries[at.unwrap_or(count)] = dated;
+    count + usize::from(at.is_none())
 }
 
 // Puts the items of one day, the first for the subject 1 and so on, one after the other; no more than a day has periods.
@@ -225,99 +203,50 @@ pub fn put_day<T: Copy>(
     ensures after { entries.new ≡ holding_if result (put_day (take count entries.old) day items.now) entries.old }
     ensures says { MatchResult result (λ n. AfterDay (take count entries.old) day (take periods items.now) (take n entries.new)) (λ _. entries.new ≡ entries.old) }
 {
-    let items = of_day(items);
+    let items = &items[..DAY_ITEMS.min(items.len())];
     let held = History::held(entries, count, table)?;
-    let Places { at, needed } = held.places(day, items);
+    let at = held.find_each(day);
+    let needed = count + count_none(&at[..items.len()]);
     if needed > entries.len() {
         return Err(Fault::HistoryFull { needed });
     }
-    Ok(place_day(entries, count, at, day, items))
+    Ok(place_day(entries, count, &at, day, items))
 }
 
 // The most items of a day: one for each Settlement Period.
 const DAY_ITEMS: usize = PERIODS as usize;
 
-// The first items, no more than a day has.
-fn of_day<T>(items: &[T]) -> &[T]
-    ensures { result.now ≡ take periods items.now }
+// How many of a day's items have no entry yet.
+fn count_none(at: &[Option<usize>]) -> usize
+    ensures { result ≡ count_by (λ o. not (is_some o)) at.now }
 {
-    if items.len() <= DAY_ITEMS {
-        return items;
-    }
-    &items[..DAY_ITEMS]
-}
-
-// Where the entries of a day stand, the first for the subject 1, and how many entries are held once they are put.
-#[derive(Clone, Copy)]
-struct Places {
-    at: [Option<usize>; DAY_ITEMS],
-    needed: usize,
-}
-
-impl<T> History<'_, T> {
-    fn places(self, day: u16, items: &[T]) -> Places
-        requires { length items.now ≤ periods }
-        ensures at { (k : ℕ) → k < length items.now → slice_index_or result.at k None ≡ found self.entry.entries.now (k + 1) day }
-        ensures needed { result.needed ≡ length (put_all self.entry.entries.now (on_day day 1 items.now)) }
-    {
-        let at = found_each(self.entries, day);
-        let mut needed = self.entries.len();
-        for i in 0..items.len() {
-            needed = count_after(needed, at[i]);
-        }
-        Places { at, needed }
-    }
-}
-
-// For each Settlement Period as the subject, the index of its first entry of the day, in one pass.
-fn found_each<T>(entries: &[Dated<T>], day: u16) -> [Option<usize>; DAY_ITEMS]
-    ensures each { (k : ℕ) → k < periods → slice_index_or result k None ≡ found entries.now (k + 1) day }
-    ensures size { length result ≡ periods }
-{
-    let mut at = [None; DAY_ITEMS];
-    for (i, dated) in entries.iter().enumerate() {
-        let on = dated.is_of_period(day);
-        if on {
-            let k = usize::from(dated.subject) - 1;
-            at[k] = or_first(at[k], i);
-        }
-    }
-    at
-}
-
-// What was found before, or else this index.
-fn or_first(found: Option<usize>, index: usize) -> Option<usize>
-    ensures { result ≡ or_else found (Some index) }
-{
-    match found {
-        Some(earlier) => Some(earlier),
-        None => Some(index),
-    }
+    at.iter().filter(|at| at.is_none()).count()
 }
 
 // Writes each item where its entry was found, or behind those held.
 fn place_day<T: Copy>(
     entries: &mut [Dated<T>],
     count: usize,
-    at: [Option<usize>; DAY_ITEMS],
+    at: &[Option<usize>],
     day: u16,
     items: &[T],
 ) -> usize
     requires held { count ≤ length entries.old }
     requires few { length items.now ≤ periods }
-    requires at { (k : ℕ) → k < length items.now → slice_index_or at k None ≡ found (take count entries.old) (k + 1) day }
+    requires at { (k : ℕ) → k < length items.now → slice_index_or at.now k None ≡ found (take count entries.old) (k + 1) day }
+    requires each { length items.now ≤ length at.now }
     requires room { length (put_all (take count entries.old) (on_day day 1 items.now)) ≤ length entries.old }
     ensures count { result ≡ length (put_all (take count entries.old) (on_day day 1 items.now)) }
     ensures after { entries.new ≡ holding (put_all (take count entries.old) (on_day day 1 items.now)) entries.old }
 {
     let mut end = count;
-    for (i, item) in items.iter().enumerate() {
+    for ((subject, item), at) in (1..=PERIODS).zip(items).zip(at) {
         let dated = Dated {
-            subject: i as u8 + 1,
+            subject,
             day,
             entry: *item,
         };
-        end = place(entries, end, at[i], dated);
+        end = place(entries, end, *at, dated);
     }
     end
 }

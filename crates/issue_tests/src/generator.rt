@@ -1,42 +1,28 @@
 // Long lists of calls that look random: who registers, schedules, reads, ends and issues, in time or late, with and without a right to.
-use domain::{AllocationRow, gate};
+ghost use Rattle.std.specs.Prelude.{◌<◌, ◌≤◌};
+
+use domain::{AllocationRow, NOMINATIONS, PERIODS, Quality, Run, gate};
 use season::Call;
+use std::alloc::{AllocError, Global};
+use std::array;
 
 pub(crate) const DAYS: u16 = 4;
 
-// The half hours of all days, and the most places of a site.
-pub(crate) const HALF_HOURS: usize = 192;
-
-pub(crate) const PLACES: usize = 8;
-
 pub(crate) const CAPACITY: u32 = 60;
 
-// The suppliers are numbered from here on.
-pub(crate) const FIRST_SUPPLIER: u16 = 101;
+pub(crate) const SUPPLIERS: [u16; 4] = [101, 102, 103, 104];
 
-pub(crate) const SUPPLIERS: usize = 4;
+// Calls of a list: a holder for each place and schedules, then all readings, then calls of all kinds, amid which all suppliers ask for an end, and only then are days closed.
+const HOLDERS_AND_SCHEDULES: u8 = 9;
+
+const BEFORE_THE_ENDS: usize = 129;
+
+const AFTER_THE_ENDS: usize = 226;
 
 // Schedules that are sent, again and again; the first of them has an unlawful row.
-pub(crate) const SCHEDULES: usize = 6;
+const SCHEDULES: usize = 6;
 
-// Calls of a list: a holder for each place, a schedule and all readings come first; amid the others all suppliers ask for an end, and only then are days closed.
-pub(crate) const CALLS: usize = 560;
-
-const READINGS_FROM: usize = 9;
-
-const READINGS_TO: usize = READINGS_FROM + HALF_HOURS;
-
-const ENDS_FROM: usize = 330;
-
-const ENDS_TO: usize = ENDS_FROM + SUPPLIERS;
-
-pub(crate) const NO_ROW: AllocationRow = AllocationRow {
-    method: 0,
-    balance: 0,
-    nominations: [0; PLACES],
-};
-
-pub(crate) type Schedules = [[AllocationRow; 48]; SCHEDULES];
+pub(crate) type Schedules = [[AllocationRow; PERIODS as usize]; SCHEDULES];
 
 // A generator of numbers.
 #[derive(Drop)]
@@ -45,28 +31,32 @@ pub(crate) struct Dice {
 }
 
 impl Dice {
-    // A number below the limit.
-    fn below(&mut self, limit: u16) -> u16 {
+    pub(crate) fn roll(&mut self) -> u64 {
         self.state = self
             .state
             .wrapping_mul(6_364_136_223_846_793_005)
             .wrapping_add(1_442_695_040_888_963_407);
-        if limit == 0 {
-            return 0;
-        }
-        ((self.state >> 33) % u64::from(limit)) as u16
+        self.state
+    }
+
+    // A number below the limit, or 0 where the limit is 0.
+    fn below(&mut self, limit: u16) -> u16
+        ensures below { 0 < limit → result < limit }
+        ensures most { result ≤ limit }
+    {
+        ((self.roll() >> 33) % u64::from(limit.max(1))) as u16
     }
 
     fn small(&mut self, limit: u8) -> u8 {
-        (self.below(u16::from(limit)) % 256) as u8
+        self.below(u16::from(limit)) as u8
     }
 
     fn supplier(&mut self) -> u16 {
-        u16::wrapping_add(FIRST_SUPPLIER, self.below(SUPPLIERS as u16))
+        SUPPLIERS[usize::from(self.below(4))]
     }
 }
 
-// A method that a site of so many places may have.
+// A method that a site of so many places may have, by the number that rows store: the names that the rules give the numbers are their own.
 fn method(dice: &mut Dice, places: u8) -> u8 {
     match (places, dice.below(3)) {
         (2, 0) => 1,
@@ -89,7 +79,7 @@ fn balance(dice: &mut Dice, method: u8, places: u8) -> u8 {
 
 // What a place nominates: a part of the capacity that suffices for all, but a percentage at the last place but one, in steps of 5% so that halves are met.
 fn nomination(dice: &mut Dice, method: u8, places: u8, place: u8) -> u32 {
-    let percentage = method == 1 || method == 5 || method == 7;
+    let percentage = matches!(method, 1 | 5 | 7);
     if percentage && place.saturating_add(2) == places {
         return u32::from(dice.below(21)) * 500;
     }
@@ -105,10 +95,10 @@ fn nomination(dice: &mut Dice, method: u8, places: u8, place: u8) -> u32 {
 fn row(dice: &mut Dice, places: u8) -> AllocationRow {
     let method = method(dice, places);
     let balance = balance(dice, method, places);
-    let mut nominations = [0; PLACES];
-    for place in 0..8u8 {
-        if place < places && place != balance {
-            nominations[usize::from(place)] = nomination(dice, method, places, place);
+    let mut nominations = [0; NOMINATIONS];
+    for (place, nominated) in (0..places).zip(nominations.iter_mut()) {
+        if place != balance {
+            *nominated = nomination(dice, method, places, place);
         }
     }
     AllocationRow {
@@ -118,24 +108,10 @@ fn row(dice: &mut Dice, places: u8) -> AllocationRow {
     }
 }
 
-fn schedule(dice: &mut Dice, places: u8) -> [AllocationRow; 48] {
-    let mut rows = [NO_ROW; 48];
-    for i in 0..48usize {
-        rows[i] = row(dice, places);
-    }
-    rows
-}
-
 // The schedules of a site. In the first, the balance place of one row is none of the site's.
 pub(crate) fn schedules(dice: &mut Dice, places: u8) -> Schedules {
-    let mut schedules = [[NO_ROW; 48]; SCHEDULES];
-    for i in 0..SCHEDULES {
-        schedules[i] = schedule(dice, places);
-    }
-    let at = usize::from(dice.below(48));
-    if at < 48 {
-        schedules[0][at].balance = places;
-    }
+    let mut schedules: Schedules = array::from_fn(|_| array::from_fn(|_| row(dice, places)));
+    schedules[0][usize::from(dice.below(48))].balance = places;
     schedules
 }
 
@@ -152,16 +128,12 @@ fn registering(dice: &mut Dice, places: u8) -> Call<'static> {
 // A schedule; now and then a minute after the gate.
 fn scheduling<'a>(dice: &mut Dice, schedules: &'a Schedules) -> Call<'a> {
     let day = dice.below(DAYS);
-    let which = usize::from(dice.below(SCHEDULES as u16));
+    let rows = &schedules[usize::from(dice.below(6))];
     Call::Schedule {
         sender: dice.supplier(),
         day,
         moment: gate(day).wrapping_add(u32::from(dice.below(6) / 5)),
-        rows: if which < SCHEDULES {
-            &schedules[which]
-        } else {
-            &[]
-        },
+        rows,
     }
 }
 
@@ -188,9 +160,10 @@ fn ending(dice: &mut Dice) -> Call<'static> {
 // An issue; where days may be closed, now and then the last one of its day.
 fn issuing(dice: &mut Dice, closing: bool) -> Call<'static> {
     let last = closing && dice.below(8) == 0;
+    let run = if last { Run::Final } else { Run::Initial };
     Call::Issue {
         day: dice.below(DAYS),
-        run: if last { 2 } else { 1 },
+        run: run as u8,
     }
 }
 
@@ -204,43 +177,51 @@ fn any<'a>(dice: &mut Dice, closing: bool, places: u8, schedules: &'a Schedules)
     }
 }
 
-// The call at an index of the list.
-fn call<'a>(dice: &mut Dice, i: usize, places: u8, schedules: &'a Schedules) -> Call<'a> {
-    match i {
-        0..8 if i < usize::from(places) => Call::Register {
-            place: i as u8,
-            day: 0,
-            supplier: FIRST_SUPPLIER + (i % SUPPLIERS) as u16,
-        },
-        0..READINGS_FROM => Call::Schedule {
-            sender: FIRST_SUPPLIER,
-            day: 0,
-            moment: gate(0),
-            rows: &schedules[1],
-        },
-        READINGS_FROM..READINGS_TO => Call::Reading {
-            day: ((i - READINGS_FROM) / 48) as u16,
-            period: ((i - READINGS_FROM) % 48) as u8 + 1,
-            quality: 1,
-            kwh: u32::from(dice.below(121)),
-        },
-        ENDS_FROM..ENDS_TO => Call::End {
-            sender: FIRST_SUPPLIER + (i - ENDS_FROM) as u16,
-            day: 2,
-            moment: gate(2),
-        },
-        _ => any(dice, i >= ENDS_TO, places, schedules),
-    }
-}
-
-// Fills the list.
-pub(crate) fn fill<'a>(
-    calls: &mut [Call<'a>; CALLS],
+// The list of a site.
+pub(crate) fn calls<'a>(
+    alloc: Global,
     dice: &mut Dice,
     places: u8,
     schedules: &'a Schedules,
-) {
-    for i in 0..CALLS {
-        calls[i] = call(dice, i, places, schedules);
+) -> Result<Vec<Call<'a>>, AllocError> {
+    let mut calls = Vec::new(alloc);
+    for place in 0..places {
+        calls.push(Call::Register {
+            place,
+            day: 0,
+            supplier: SUPPLIERS[usize::from(place % 4)],
+        })?;
     }
+    for _ in places..HOLDERS_AND_SCHEDULES {
+        calls.push(Call::Schedule {
+            sender: SUPPLIERS[0],
+            day: 0,
+            moment: gate(0),
+            rows: &schedules[1],
+        })?;
+    }
+    for day in 0..DAYS {
+        for period in 1..=PERIODS {
+            calls.push(Call::Reading {
+                day,
+                period,
+                quality: Quality::Estimated as u8,
+                kwh: u32::from(dice.below(121)),
+            })?;
+        }
+    }
+    for _ in 0..BEFORE_THE_ENDS {
+        calls.push(any(dice, false, places, schedules))?;
+    }
+    for sender in SUPPLIERS {
+        calls.push(Call::End {
+            sender,
+            day: 2,
+            moment: gate(2),
+        })?;
+    }
+    for _ in 0..AFTER_THE_ENDS {
+        calls.push(any(dice, true, places, schedules))?;
+    }
+    Ok(calls)
 }

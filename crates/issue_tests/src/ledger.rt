@@ -1,224 +1,190 @@
-// The second calculation: what was accepted, kept in plain arrays, and what each issue of a day then has to have sent in all.
-use crate::generator::{CAPACITY, DAYS, FIRST_SUPPLIER, HALF_HOURS, PLACES, SUPPLIERS};
-use domain::{AllocationRow, Line};
+// The second calculation: what was accepted, kept in plain lists, and what each issue of a day then has to have sent in all.
+use crate::generator::{CAPACITY, DAYS, SUPPLIERS};
+use domain::{AllocationRow, Fault, Line, MAX_PLACES, PERIODS};
 use recount::Recount;
 use rules::{Row, Rule};
-use season::{Call, Outcome};
+use season::{Accepted, Call, Outcome};
+use std::alloc::Global;
+use std::collections::BTreeMap;
 use std::process::Abort;
-use std::test::*;
+use std::test::Fail;
 
-const ALL_DAYS: usize = DAYS as usize;
+const PLACES: usize = MAX_PLACES as usize;
 
-const HOLDERS: usize = PLACES * ALL_DAYS;
-
-const SUMS: usize = HALF_HOURS * PLACES * SUPPLIERS;
-
-// What the last issue of a half hour split: its kWh, the row, and each place's holder and share.
+// Who holds a place from a day on.
 #[derive(Clone, Copy)]
+pub(crate) struct Holder {
+    place: u8,
+    day: u16,
+    supplier: u16,
+}
+
+// The rows from a day on.
+#[derive(Clone, Copy)]
+pub(crate) struct Schedule<'a> {
+    day: u16,
+    rows: &'a [AllocationRow],
+}
+
+#[derive(Clone, Copy)]
+pub(crate) struct Metered {
+    day: u16,
+    period: u8,
+    kwh: u32,
+}
+
+// A place's holder in a half hour, and its share.
+#[derive(Clone, Copy, Default)]
+struct Part {
+    holder: Option<u16>,
+    share: i64,
+}
+
+// What an issue split in a half hour: its kWh, the row, and the part of each place.
+#[derive(Clone, Copy, Default)]
 pub(crate) struct Split {
     kwh: u32,
     row: Option<AllocationRow>,
-    holders: [u16; PLACES],
-    shares: [i64; PLACES],
+    parts: [Part; PLACES],
 }
 
-// How many calls were accepted and refused, and what the issues split, so that a list that tests little is found.
+// An issue, and what it split in each half hour of its day.
 #[derive(Clone, Copy)]
-pub(crate) struct Counts {
-    pub(crate) registers: usize,
-    pub(crate) schedules: usize,
-    pub(crate) readings: usize,
-    pub(crate) ends: usize,
-    pub(crate) issues: usize,
-    pub(crate) closings: usize,
-    pub(crate) refusals: usize,
+pub(crate) struct Issued {
+    day: u16,
+    pub(crate) run: u8,
     pub(crate) lines: usize,
-    // half hours split with a share below zero, and with each method, 0 for none
-    pub(crate) below_zero: usize,
-    pub(crate) methods: [usize; 8],
+    pub(crate) splits: [Split; PERIODS as usize],
 }
 
-const NO_COUNTS: Counts = Counts {
-    registers: 0,
-    schedules: 0,
-    readings: 0,
-    ends: 0,
-    issues: 0,
-    closings: 0,
-    refusals: 0,
-    lines: 0,
-    below_zero: 0,
-    methods: [0; 8],
-};
-
-impl Counts {
-    fn keep_split(&mut self, split: &Split) {
-        let method = split.method();
-        if method < 8 {
-            self.methods[method] = self.methods[method].wrapping_add(1);
-        }
-        if split.is_below_zero() {
-            self.below_zero = self.below_zero.wrapping_add(1);
-        }
-    }
-}
-
-#[derive(Clone, Copy)]
-pub(crate) struct Ledger {
+// What was accepted of each kind, and what was refused, in the order in which it came, so that a list that tests little is found.
+#[derive(Drop)]
+pub(crate) struct Ledger<'a> {
     places: u8,
-    // place by place, who was registered for each day, 0 for nobody
-    holders: [u16; HOLDERS],
-    // the row that was scheduled for each half hour
-    rows: [Option<AllocationRow>; HALF_HOURS],
-    ended: Option<u16>,
-    read: [u32; HALF_HOURS],
-    splits: [Split; HALF_HOURS],
-    pub(crate) counts: Counts,
+    pub(crate) holders: Vec<Holder>,
+    pub(crate) schedules: Vec<Schedule<'a>>,
+    pub(crate) readings: Vec<Metered>,
+    pub(crate) ends: Vec<u16>,
+    pub(crate) issues: Vec<Issued>,
+    pub(crate) refusals: Vec<Fault>,
 }
 
-// The half hours of all days, counted from 0.
-fn half_hour(day: u16, period: u8) -> usize {
-    usize::from(day) * 48 + usize::from(period).saturating_sub(1)
-}
-
-// What a place has of a half hour, by the second calculation.
-fn share(row: Option<AllocationRow>, places: u8, half_hour: usize, kwh: u32, place: usize) -> i64 {
-    let places = usize::from(places);
-    match row {
-        Some(row) if places <= PLACES => {
-            let row = Row {
-                method: row.method,
-                capacity: CAPACITY,
-                nominations: &row.nominations[0..places],
-                balance: row.balance,
-            };
-            Recount.share(row, (half_hour % 48) as u8 + 1, kwh, place)
-        }
-        None if place == 0 => i64::from(kwh),
-        _ => 0,
-    }
-}
-
-impl Ledger {
-    pub(crate) fn new(places: u8) -> Ledger {
-        let nothing = Split {
-            kwh: 0,
-            row: None,
-            holders: [0; PLACES],
-            shares: [0; PLACES],
-        };
+impl<'a> Ledger<'a> {
+    pub(crate) fn new(alloc: Global, places: u8) -> Ledger<'a> {
         Ledger {
             places,
-            holders: [0; HOLDERS],
-            rows: [None; HALF_HOURS],
-            ended: None,
-            read: [0; HALF_HOURS],
-            splits: [nothing; HALF_HOURS],
-            counts: NO_COUNTS,
+            holders: Vec::new(alloc),
+            schedules: Vec::new(alloc),
+            readings: Vec::new(alloc),
+            ends: Vec::new(alloc),
+            issues: Vec::new(alloc),
+            refusals: Vec::new(alloc),
         }
     }
 
-    fn is_ended(&self, day: usize) -> bool {
-        match self.ended {
-            Some(end) => usize::from(end) <= day,
-            None => false,
-        }
+    fn is_ended(&self, day: u16) -> bool {
+        self.ends.iter().any(|end| *end <= day)
     }
 
     // Who holds a place on a day: the one of the latest day not after it.
-    fn holder(&self, place: usize, day: usize) -> u16 {
-        if place >= PLACES || place > 0 && self.is_ended(day) {
-            return 0;
+    fn holder(&self, place: u8, day: u16) -> Option<u16> {
+        if place > 0 && self.is_ended(day) {
+            return None;
         }
-        let mut holder = 0;
-        for from in 0..ALL_DAYS {
-            let supplier = self.holders[place * ALL_DAYS + from];
-            if from <= day && supplier != 0 {
-                holder = supplier;
-            }
-        }
-        holder
+        self.holders
+            .iter()
+            .filter(|holder| holder.place == place && holder.day <= day)
+            .max_by_key(|holder| holder.day)
+            .map(|holder| holder.supplier)
     }
 
-    // The row of a half hour, of the latest schedule not after its day.
-    fn row(&self, half_hour: usize) -> Option<AllocationRow> {
-        let day = half_hour / 48;
+    // The rows of a day, by the latest schedule not after it.
+    fn rows(&self, day: u16) -> Option<&'a [AllocationRow]> {
         if self.is_ended(day) {
             return None;
         }
-        let mut row = None;
-        for from in 0..ALL_DAYS {
-            let scheduled = self.rows[from * 48 + half_hour % 48];
-            if from <= day && scheduled.is_some() {
-                row = scheduled;
+        self.schedules
+            .iter()
+            .filter(|schedule| schedule.day <= day)
+            .max_by_key(|schedule| schedule.day)
+            .map(|schedule| schedule.rows)
+    }
+
+    // The kWh that were last read in a half hour.
+    fn kwh(&self, day: u16, period: u8) -> u32 {
+        self.readings
+            .iter()
+            .rev()
+            .find(|reading| reading.day == day && reading.period == period)
+            .map_or(0, |reading| reading.kwh)
+    }
+
+    // What a place has of a half hour, by the second calculation.
+    fn share(&self, row: Option<AllocationRow>, period: u8, kwh: u32, place: u8) -> i64 {
+        match row {
+            Some(row) => {
+                let places = usize::from(self.places.min(MAX_PLACES));
+                let row = Row {
+                    method: row.method,
+                    capacity: CAPACITY,
+                    nominations: &row.nominations[..places],
+                    balance: row.balance,
+                };
+                Recount.share(row, period, kwh, usize::from(place))
             }
-        }
-        row
-    }
-
-    // What an issue splits now in a half hour.
-    fn split(&self, half_hour: usize, kwh: u32) -> Split {
-        let row = self.row(half_hour);
-        let mut holders = [0; PLACES];
-        let mut shares = [0; PLACES];
-        for place in 0..PLACES {
-            holders[place] = self.holder(place, half_hour / 48);
-            shares[place] = share(row, self.places, half_hour, kwh, place);
-        }
-        Split {
-            kwh,
-            row,
-            holders,
-            shares,
+            None if place == 0 => i64::from(kwh),
+            None => 0,
         }
     }
 
-    fn keep_register(&mut self, place: u8, day: u16, supplier: u16) {
-        self.counts.registers = self.counts.registers.wrapping_add(1);
-        let slot = usize::from(place) * ALL_DAYS + usize::from(day);
-        if slot < HOLDERS {
-            self.holders[slot] = supplier;
+    // What an issue splits now in a half hour, by a row and among the holders of its day.
+    fn split(
+        &self,
+        row: Option<AllocationRow>,
+        holders: [Option<u16>; PLACES],
+        period: u8,
+        kwh: u32,
+    ) -> Split {
+        let mut parts = [Part::default(); PLACES];
+        let places = (0..MAX_PLACES).zip(holders);
+        for ((place, holder), part) in places.zip(parts.iter_mut()) {
+            let share = self.share(row, period, kwh, place);
+            *part = Part { holder, share };
         }
+        Split { kwh, row, parts }
     }
 
-    fn keep_schedule(&mut self, day: u16, rows: &[AllocationRow]) {
-        self.counts.schedules = self.counts.schedules.wrapping_add(1);
-        for (i, row) in rows.iter().enumerate() {
-            if day < DAYS && i < 48 {
-                self.rows[usize::from(day) * 48 + i] = Some(*row);
-            }
+    // What an issue splits now in the half hours of a day.
+    fn splits(&self, day: u16) -> [Split; PERIODS as usize] {
+        let mut holders = [None; PLACES];
+        for (place, holder) in (0..MAX_PLACES).zip(holders.iter_mut()) {
+            *holder = self.holder(place, day);
         }
+        let rows = self.rows(day);
+        let mut splits = [Split::default(); PERIODS as usize];
+        for (period, split) in (1..=PERIODS).zip(splits.iter_mut()) {
+            let at = usize::from(period.saturating_sub(1));
+            let row = rows.and_then(|rows| rows.get(at));
+            *split = self.split(row.copied(), holders, period, self.kwh(day, period));
+        }
+        splits
     }
 
-    fn keep_reading(&mut self, day: u16, period: u8, kwh: u32) {
-        self.counts.readings = self.counts.readings.wrapping_add(1);
-        let slot = half_hour(day, period);
-        if slot < HALF_HOURS {
-            self.read[slot] = kwh;
-        }
-    }
-
-    fn keep_issue(&mut self, day: u16, run: u8, lines: usize) {
-        self.counts.issues = self.counts.issues.wrapping_add(1);
-        self.counts.lines = self.counts.lines.wrapping_add(lines);
-        if run == 2 {
-            self.counts.closings = self.counts.closings.wrapping_add(1);
-        }
-        for i in 0..HALF_HOURS {
-            if i / 48 == usize::from(day) {
-                let split = self.split(i, self.read[i]);
-                self.counts.keep_split(&split);
-                self.splits[i] = split;
-            }
-        }
+    fn keep_issue(&mut self, day: u16, run: u8, lines: usize) -> Result<(), Fail> {
+        let splits = self.splits(day);
+        self.issues.push(Issued {
+            day,
+            run,
+            lines,
+            splits,
+        })?;
+        Ok(())
     }
 
     // Keeps what came of a call.
-    pub(crate) fn keep(&mut self, call: Call<'_>, came: Outcome) {
+    pub(crate) fn keep(&mut self, call: Call<'a>, came: Outcome) -> Result<(), Fail> {
         match (call, came) {
-            (_, Outcome::Refused { .. }) => {
-                self.counts.refusals = self.counts.refusals.wrapping_add(1);
-            }
+            (_, Err(fault)) => self.refusals.push(fault)?,
             (
                 Call::Register {
                     place,
@@ -226,8 +192,14 @@ impl Ledger {
                     supplier,
                 },
                 _,
-            ) => self.keep_register(place, day, supplier),
-            (Call::Schedule { day, rows, .. }, _) => self.keep_schedule(day, rows),
+            ) => self.holders.push(Holder {
+                place,
+                day,
+                supplier,
+            })?,
+            (Call::Schedule { day, rows, .. }, _) => {
+                self.schedules.push(Schedule { day, rows })?
+            }
             (
                 Call::Reading {
                     day,
@@ -236,94 +208,120 @@ impl Ledger {
                     ..
                 },
                 _,
-            ) => self.keep_reading(day, period, kwh),
-            (Call::End { day, .. }, _) => {
-                self.counts.ends = self.counts.ends.wrapping_add(1);
-                self.ended = Some(day);
-            }
-            (Call::Issue { day, run }, Outcome::Issued { lines }) => {
-                self.keep_issue(day, run, lines)
+            ) => self.readings.push(Metered { day, period, kwh })?,
+            (Call::End { day, .. }, _) => self.ends.push(day)?,
+            (Call::Issue { day, run }, Ok(Accepted::Issued { lines })) => {
+                self.keep_issue(day, run, lines)?
             }
             _ => {}
         }
+        Ok(())
+    }
+
+    // How many lines all issues sent.
+    pub(crate) fn lines(&self) -> usize {
+        self.issues
+            .iter()
+            .fold(0, |sum: usize, issue| sum.saturating_add(issue.lines))
+    }
+
+    // What the last issue of a day split.
+    fn last_splits(&self, day: u16) -> [Split; PERIODS as usize] {
+        self.issues
+            .iter()
+            .rev()
+            .find(|issue| issue.day == day)
+            .map_or([Split::default(); PERIODS as usize], |issue| issue.splits)
     }
 
     // The lines of each half hour add up to what its last issue split.
-    pub(crate) fn compare(&self, sums: &[i64; SUMS]) -> Result<(), Fail> {
-        for i in 0..HALF_HOURS {
-            let total = self.splits[i].compare(sums, i)?;
-            if total != i64::from(self.splits[i].kwh) {
-                return Err(Fail::new("a half hour's lines do not add up to its kWh"));
+    pub(crate) fn compare(&self, sums: &Sums) -> Result<(), Fail> {
+        for day in 0..DAYS {
+            for (period, split) in (1..=PERIODS).zip(self.last_splits(day)) {
+                if split.compare(sums, day, period)? != i64::from(split.kwh) {
+                    return Err(Fail::new("a half hour's lines do not add up to its kWh"));
+                }
             }
         }
         Ok(())
     }
 }
 
-impl Split {
-    fn method(&self) -> usize {
-        match self.row {
-            Some(row) => usize::from(row.method),
-            None => 0,
-        }
-    }
-
-    fn is_below_zero(&self) -> bool {
-        for share in self.shares {
-            if share < 0 {
-                return true;
-            }
-        }
-        false
-    }
-
-    // Compares the sums of a half hour, place by place and supplier by supplier, and says what they come to together.
-    fn compare(&self, sums: &[i64; SUMS], half_hour: usize) -> Result<i64, Fail> {
-        let mut total = 0;
-        for cell in 0..PLACES * SUPPLIERS {
-            let place = cell / SUPPLIERS;
-            let slot = half_hour
-                .saturating_mul(PLACES * SUPPLIERS)
-                .saturating_add(cell);
-            if slot >= SUMS || sums[slot] != self.expected(place, cell % SUPPLIERS) {
-                return Err(Fail::new("a supplier's lines do not add up to its share"));
-            }
-            if sums[slot] < 0 && !self.is_balance(place) {
-                return Err(Fail::new("a sum below zero is not at the balance place"));
-            }
-            total = i64::wrapping_add(total, sums[slot]);
-        }
-        Ok(total)
-    }
-
-    // What a supplier's lines of a place have to come to: the place's share for its holder, and nothing for any other.
-    fn expected(&self, place: usize, supplier: usize) -> i64 {
-        let number = supplier.wrapping_add(usize::from(FIRST_SUPPLIER));
-        if place < PLACES && usize::from(self.holders[place]) == number {
-            self.shares[place]
+impl Part {
+    // What a supplier's lines have to come to: the share for the holder, and nothing for any other.
+    fn of(self, supplier: u16) -> i64 {
+        if self.holder == Some(supplier) {
+            self.share
         } else {
             0
         }
     }
+}
 
-    fn is_balance(&self, place: usize) -> bool {
-        match self.row {
-            Some(row) => usize::from(row.balance) == place,
-            None => false,
+impl Split {
+    // The method by which it was split, or none where the first place had it all.
+    pub(crate) fn method(&self) -> Option<u8> {
+        self.row.map(|row| row.method)
+    }
+
+    pub(crate) fn is_below_zero(&self) -> bool {
+        self.parts.iter().any(|part| part.share < 0)
+    }
+
+    // Compares the sums of the half hour, place by place and supplier by supplier, and says what they come to together.
+    fn compare(&self, sums: &Sums, day: u16, period: u8) -> Result<i64, Fail> {
+        let mut total = 0;
+        for (place, part) in (0..MAX_PLACES).zip(self.parts) {
+            for supplier in SUPPLIERS {
+                let sent = Sent {
+                    day,
+                    period,
+                    place,
+                    supplier,
+                };
+                let sum = sums.get(&sent).copied().unwrap_or(0);
+                if sum != part.of(supplier) {
+                    return Err(Fail::new("a supplier's lines do not add up to its share"));
+                }
+                if sum < 0 && !self.is_balance(place) {
+                    return Err(Fail::new("a sum below zero is not at the balance place"));
+                }
+                total = i64::wrapping_add(total, sum);
+            }
         }
+        Ok(total)
+    }
+
+    fn is_balance(&self, place: u8) -> bool {
+        self.row.is_some_and(|row| row.balance == place)
     }
 }
 
+// Whom lines were sent to, for which half hour and place.
+#[derive(Clone, Copy, PartialEq, Eq, PartialOrd, Ord)]
+pub(crate) struct Sent {
+    day: u16,
+    period: u8,
+    place: u8,
+    supplier: u16,
+}
+
+pub(crate) type Sums = BTreeMap<Sent, i64>;
+
 // The volumes of the lines, added up by half hour, place and supplier.
-pub(crate) fn sums(rt: &impl Abort, lines: &[Line]) -> Result<[i64; SUMS], Fail> {
-    let mut sums = [0; SUMS];
+pub(crate) fn sums(rt: &impl Abort, alloc: Global, lines: &[Line]) -> Result<Sums, Fail> {
+    let mut sums = BTreeMap::new(alloc);
     for line in lines {
-        let i = half_hour(line.day, line.period);
-        let place = usize::from(line.place);
-        let supplier = usize::from(line.supplier.wrapping_sub(FIRST_SUPPLIER));
-        assert!(rt; i < HALF_HOURS && place < PLACES && supplier < SUPPLIERS);
-        let slot = (i * PLACES + place) * SUPPLIERS + supplier;
-        sums[slot] = i64::wrapping_add(sums[slot], i64::from(line.volume));
+        assert!(rt; line.day < DAYS && (1..=PERIODS).contains(&line.period));
+        assert!(rt; line.place < MAX_PLACES && SUPPLIERS.contains(&line.supplier));
+        let sent = Sent {
+            day: line.day,
+            period: line.period,
+            place: line.place,
+            supplier: line.supplier,
+        };
+        let sum = sums.entry(sent)?.or_insert(0);
+        *sum = i64::wrapping_add(*sum, i64::from(line.volume));
     }
     Ok(sums)
 }

@@ -18,6 +18,8 @@ mod long;
 #[cfg(test)]
 mod order;
 #[cfg(test)]
+mod replays;
+#[cfg(test)]
 mod sent;
 #[cfg(test)]
 mod spoiled;

@@ -1,122 +1,93 @@
 // Long lists of calls on sites of two to eight places, replayed, and their lines beside a second calculation.
-use crate::generator::{CALLS, CAPACITY, DAYS, Dice, HALF_HOURS, NO_ROW, PLACES, fill, schedules};
-use crate::ledger::{Counts, Ledger, sums};
-use domain::{AllocationRow, Line, Reading, Slot, Terms};
-use history::Dated;
-use rules::House;
-use season::{Call, Outcome, replay};
+use crate::generator::{CAPACITY, DAYS, Dice, calls, schedules};
+use crate::ledger::{Ledger, sums};
+use crate::replays::replayed;
+use domain::{Run, Terms, reading_slots};
 use std::process::Abort;
 use std::test::*;
 
 const LINES: usize = 20_000;
 
-const NO_LINE: Line = Line {
-    day: 0,
-    period: 0,
-    place: 0,
-    supplier: 0,
-    run: 0,
-    volume: 0,
-};
-
-const NO_HOLDER: Dated<u16> = Dated {
-    subject: 0,
-    day: 0,
-    entry: 0,
-};
-
-const NO_ENTRY: Dated<AllocationRow> = Dated {
-    subject: 0,
-    day: 0,
-    entry: NO_ROW,
-};
-
-// The journal of a list, and what came of each call. The histories have room for three of the four days.
-fn replayed(
+// Replays a list on a site of so many places, and compares its lines with the second calculation.
+fn added_up<R: Abort + AllocGlobal>(
+    rt: &R,
+    start: u64,
     places: u8,
-    calls: &[Call<'_>; CALLS],
-    lines: &mut [Line; LINES],
-    outcomes: &mut [Outcome; CALLS],
+    methods: &[Option<u8>],
 ) -> Result<(), Fail> {
-    let mut holders = [NO_HOLDER; 24];
-    let mut rows = [NO_ENTRY; 144];
-    let mut readings = [Reading::NONE; HALF_HOURS];
-    let mut issued = [Slot::NONE; PLACES * HALF_HOURS];
-    let places = places.min(PLACES as u8);
-    let slots = usize::from(places) * HALF_HOURS;
-    let _book = replay(
-        Terms::new(places, DAYS, CAPACITY)?,
-        House,
-        &mut holders[0..usize::from(places) * 3],
-        &mut rows,
-        &mut readings,
-        &mut issued[0..slots],
-        lines,
-        calls,
-        outcomes,
-    )?;
+    let alloc = rt.alloc();
+    let mut dice = Dice { state: start };
+    let schedules = schedules(&mut dice, places);
+    let calls = calls(alloc, &mut dice, places, &schedules)?;
+    let terms = Terms::new(places, DAYS, CAPACITY)?;
+    let results = replayed(alloc, terms, LINES, calls.as_slice())?;
+    let mut ledger = Ledger::new(alloc, places);
+    for (call, came) in calls.iter().zip(&results.outcomes) {
+        ledger.keep(*call, *came)?;
+    }
+    let sent = ledger.lines();
+    assert!(rt; sent <= results.journal.len());
+    ledger.compare(&sums(rt, alloc, &results.journal[..sent])?)?;
+    tests_enough(rt, &ledger, places, methods);
     Ok(())
 }
 
-// Replays a list on a site of so many places, and compares its lines with the second calculation.
-fn added_up(rt: &impl Abort, start: u64, places: u8) -> Result<Counts, Fail> {
-    let mut dice = Dice { state: start };
-    let schedules = schedules(&mut dice, places);
-    let mut calls = [Call::Issue { day: 0, run: 1 }; CALLS];
-    fill(&mut calls, &mut dice, places, &schedules);
-    let mut lines = [NO_LINE; LINES];
-    let mut outcomes = [Outcome::Done; CALLS];
-    replayed(places, &calls, &mut lines, &mut outcomes)?;
-    let mut ledger = Ledger::new(places);
-    for i in 0..CALLS {
-        ledger.keep(calls[i], outcomes[i]);
+// Accepted calls of every kind, refused ones, and half hours split by all methods that such a site may have, and by none.
+fn tests_enough(rt: &impl Abort, ledger: &Ledger<'_>, places: u8, methods: &[Option<u8>]) {
+    assert!(rt; ledger.holders.len() > usize::from(places));
+    assert!(rt; ledger.schedules.len() >= 3);
+    assert!(rt; ledger.readings.len() > reading_slots(DAYS));
+    assert!(rt; ledger.issues.len() >= 10);
+    assert!(rt;
+        ledger
+            .issues
+            .iter()
+            .any(|issue| issue.run == Run::Final as u8)
+    );
+    assert!(rt; ledger.refusals.len() >= 10);
+    assert_eq!(rt; ledger.ends.len(), 1);
+    let splits = ledger.issues.iter().flat_map(|issue| &issue.splits);
+    let below_zero = splits.filter(|split| split.is_below_zero());
+    assert_eq!(rt; below_zero.take(10).count(), 10);
+    for method in methods {
+        let splits = ledger.issues.iter().flat_map(|issue| &issue.splits);
+        let by_method = splits.filter(|split| split.method() == *method);
+        assert_eq!(rt; by_method.take(10).count(), 10);
     }
-    let sent = ledger.counts.lines;
-    assert!(rt; sent <= LINES);
-    ledger.compare(&sums(rt, &lines[0..sent])?)?;
-    Ok(ledger.counts)
 }
 
-// Replays several lists, each with accepted calls of every kind, refused ones, and half hours split by all methods that such a site may have, and by none.
-fn lists_add_up(
-    rt: &impl Abort,
+fn lists_add_up<R: Abort + AllocGlobal>(
+    rt: &R,
     places: u8,
-    methods: &[usize],
+    methods: &[Option<u8>],
     starts: [u64; 3],
 ) -> Result<(), Fail> {
     for start in starts {
-        let counts = added_up(rt, start, places)?;
-        assert!(rt; counts.registers > usize::from(places));
-        assert!(rt; counts.schedules >= 3);
-        assert!(rt; counts.readings > HALF_HOURS);
-        assert!(rt; counts.issues >= 10);
-        assert!(rt; counts.closings >= 1);
-        assert!(rt; counts.refusals >= 10);
-        assert!(rt; counts.below_zero >= 10);
-        assert_eq!(rt; counts.ends, 1);
-        for method in methods {
-            assert!(rt; *method < 8 && counts.methods[*method] >= 10);
-        }
+        added_up(rt, start, places, methods)?;
     }
     Ok(())
 }
 
 #[test]
 fn two_places(rt: HostRuntime) -> Result<(), Fail> {
-    lists_add_up(&rt, 2, &[0, 1, 2, 3], [7, 19, 2_024])
+    let methods = [None, Some(1), Some(2), Some(3)];
+    lists_add_up(&rt, 2, &methods, [7, 19, 2_024])
 }
 
 #[test]
 fn three_places(rt: HostRuntime) -> Result<(), Fail> {
-    lists_add_up(&rt, 3, &[0, 4, 5], [3, 101, 65_537])
+    let methods = [None, Some(4), Some(5)];
+    lists_add_up(&rt, 3, &methods, [3, 101, 65_537])
 }
 
 #[test]
 fn four_places(rt: HostRuntime) -> Result<(), Fail> {
-    lists_add_up(&rt, 4, &[0, 4, 6, 7], [1, 12_345, 999_983])
+    let methods = [None, Some(4), Some(6), Some(7)];
+    lists_add_up(&rt, 4, &methods, [1, 12_345, 999_983])
 }
 
 #[test]
 fn eight_places(rt: HostRuntime) -> Result<(), Fail> {
-    lists_add_up(&rt, 8, &[0, 4, 6], [5, 42, 1_000_003])
+    let methods = [None, Some(4), Some(6)];
+    lists_add_up(&rt, 8, &methods, [5, 42, 1_000_003])
 }

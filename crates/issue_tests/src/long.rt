@@ -1,39 +1,21 @@
 // A long list of calls, as a small generator makes it, and beside it a second calculation: the lines of each half hour add up to what was read when its day was last issued.
+ghost use Rattle.std.specs.Prelude.{◌<◌, ◌≤◌};
+
 use crate::desk::{SEVENTY, THIRTY};
-use domain::{AllocationRow, Line, Reading, Slot, Terms};
-use history::Dated;
-use rules::House;
-use season::{Call, Outcome, replay};
-use std::process::Abort;
+use crate::generator::Dice;
+use crate::replays::replayed;
+use domain::{AllocationRow, Fault, Line, PERIODS, Quality, Run, Terms, reading_slot};
+use season::{Accepted, Call, Outcome};
+use std::alloc::{AllocError, Global};
+use std::collections::BTreeMap;
 use std::test::*;
 
 // Calls of the list: two holders, the readings of three days, and what the generator makes.
 const CALLS: usize = 320;
 
-const READ: usize = 144;
+const DAYS: u16 = 3;
 
 const LINES: usize = 2_000;
-
-const NO_LINE: Line = Line {
-    day: 0,
-    period: 0,
-    place: 0,
-    supplier: 0,
-    run: 0,
-    volume: 0,
-};
-
-const NO_HOLDER: Dated<u16> = Dated {
-    subject: 0,
-    day: 0,
-    entry: 0,
-};
-
-const NO_ROW: Dated<AllocationRow> = Dated {
-    subject: 0,
-    day: 0,
-    entry: SEVENTY,
-};
 
 // 20 kWh for place 0 as far as they go.
 const CAPPED: AllocationRow = AllocationRow {
@@ -49,158 +31,134 @@ const TOO_MUCH: AllocationRow = AllocationRow {
     nominations: [61, 0, 0, 0, 0, 0, 0, 0],
 };
 
-fn next(seed: u64) -> u64 {
-    seed.wrapping_mul(6_364_136_223_846_793_005)
-        .wrapping_add(1_442_695_040_888_963_407)
-}
+// The lists of rows that are scheduled.
+type Lists = [[AllocationRow; PERIODS as usize]; 4];
 
 // Numbers from 0 on, from a part of the seed that varies well.
-fn pick(seed: u64, part: u32, below: u16) -> u16 {
-    if below == 0 || part > 40 {
-        return 0;
-    }
+fn pick(seed: u64, part: u32, below: u16) -> u16
+    requires part { part ≤ 40 }
+    requires some { 0 < below }
+    ensures { result < below }
+{
     ((seed >> (part + 16)) % u64::from(below)) as u16
-}
-
-fn small(number: u16) -> u8 {
-    (number % 256) as u8
 }
 
 fn registering(seed: u64) -> Call<'static> {
     let stranger = pick(seed, 30, 8) == 0;
     Call::Register {
-        place: small(pick(seed, 20, 3)),
+        place: pick(seed, 20, 3) as u8,
         day: pick(seed, 24, 3),
-        supplier: if stranger {
-            0
-        } else {
-            u16::wrapping_add(101, pick(seed, 12, 2))
-        },
+        supplier: if stranger { 0 } else { 101 + pick(seed, 12, 2) },
     }
 }
 
 fn metering(seed: u64) -> Call<'static> {
     Call::Reading {
         day: pick(seed, 20, 3),
-        period: small(pick(seed, 24, 49)),
-        quality: small(u16::wrapping_add(1, pick(seed, 12, 2))),
+        period: pick(seed, 24, 49) as u8,
+        quality: 1 + pick(seed, 12, 2) as u8,
         kwh: u32::from(pick(seed, 30, 61)),
     }
 }
 
-fn scheduling<'a>(seed: u64, rows: &'a [AllocationRow]) -> Call<'a> {
+fn scheduling(seed: u64, lists: &Lists) -> Call<'_> {
     let day = pick(seed, 20, 3);
     Call::Schedule {
-        sender: u16::wrapping_add(101, pick(seed, 24, 2)),
+        sender: 101 + pick(seed, 24, 2),
         day,
         moment: 1_380 + u32::from(day) * 1_440 + u32::from(pick(seed, 28, 6) / 5),
-        rows,
+        rows: &lists[usize::from(pick(seed, 32, 4))],
     }
 }
 
 fn issuing(seed: u64) -> Call<'static> {
     let last = pick(seed, 24, 9) == 0;
+    let run = if last { Run::Final } else { Run::Initial };
     Call::Issue {
         day: pick(seed, 20, 3),
-        run: if last { 2 } else { 1 },
+        run: run as u8,
     }
 }
 
-// The lists of rows that are scheduled.
-#[derive(Clone, Copy)]
-struct Lists<'a> {
-    one: &'a [AllocationRow],
-    two: &'a [AllocationRow],
-    three: &'a [AllocationRow],
-    refused: &'a [AllocationRow],
-}
-
-impl<'a> Lists<'a> {
-    fn list(self, number: u16) -> &'a [AllocationRow] {
-        match number {
-            0 => self.one,
-            1 => self.two,
-            2 => self.three,
-            _ => self.refused,
-        }
-    }
-}
-
-fn made<'a>(seed: u64, lists: Lists<'a>) -> Call<'a> {
+fn made(seed: u64, lists: &Lists) -> Call<'_> {
     match pick(seed, 8, 8) {
         0 => registering(seed),
-        1 => scheduling(seed, lists.list(pick(seed, 32, 4))),
+        1 => scheduling(seed, lists),
         2 | 3 => issuing(seed),
         _ => metering(seed),
     }
 }
 
-// Fills the list: the readings of all half hours first.
-fn fill<'a>(calls: &mut [Call<'a>; CALLS], lists: Lists<'a>) {
-    let mut seed = 7;
-    for i in 0..CALLS {
-        seed = next(seed);
-        calls[i] = made(seed, lists);
+// The list. The generator also makes a number for each of the calls that come first.
+fn calls<'a>(alloc: Global, lists: &'a Lists) -> Result<Vec<Call<'a>>, AllocError> {
+    let mut calls = Vec::new(alloc);
+    for (place, supplier) in [(0, 101), (1, 102)] {
+        calls.push(Call::Register {
+            place,
+            day: 0,
+            supplier,
+        })?;
     }
-    for i in 0..READ {
-        calls[i + 2] = Call::Reading {
-            day: (i / 48) as u16,
-            period: (i % 48) as u8 + 1,
-            quality: 1,
-            kwh: (i % 37) as u32,
-        };
+    for day in 0..DAYS {
+        for period in 1..=PERIODS {
+            calls.push(Call::Reading {
+                day,
+                period,
+                quality: Quality::Estimated as u8,
+                kwh: (reading_slot(day, period) % 37) as u32,
+            })?;
+        }
     }
-    calls[0] = Call::Register {
-        place: 0,
-        day: 0,
-        supplier: 101,
-    };
-    calls[1] = Call::Register {
-        place: 1,
-        day: 0,
-        supplier: 102,
-    };
+    let mut dice = Dice { state: 7 };
+    for _ in 0..calls.len() {
+        dice.roll();
+    }
+    for _ in calls.len()..CALLS {
+        calls.push(made(dice.roll(), lists))?;
+    }
+    Ok(calls)
 }
 
-// What the test keeps by itself: the kWh that were read, those of the last issue, how many lines were sent, and how many issues and refusals there were.
-#[derive(Clone, Copy)]
+// Of a half hour, the kWh that were read, those of the last issue, and what the lines come to.
+#[derive(Clone, Copy, Default)]
+struct HalfHour {
+    read: u32,
+    issued: u32,
+    sent: i64,
+}
+
+// What the test keeps by itself, for each day and period, and of the calls that were refused and the issues.
+#[derive(Drop)]
 struct Tally {
-    read: [u32; READ],
-    issued: [u32; READ],
-    lines: usize,
-    issues: usize,
-    refusals: usize,
-}
-
-// The half hours of all days, counted from 0.
-fn half_hour(day: u16, period: u8) -> usize {
-    usize::from(day) * 48 + usize::from(period).saturating_sub(1)
+    half_hours: BTreeMap<(u16, u8), HalfHour>,
+    refusals: Vec<Fault>,
+    // how many lines each issue sent
+    issues: Vec<usize>,
 }
 
 impl Tally {
-    fn keep_reading(&mut self, day: u16, period: u8, kwh: u32) {
-        let slot = half_hour(day, period);
-        if slot < READ {
-            self.read[slot] = kwh;
+    fn new(alloc: Global) -> Tally {
+        Tally {
+            half_hours: BTreeMap::new(alloc),
+            refusals: Vec::new(alloc),
+            issues: Vec::new(alloc),
         }
     }
 
-    fn keep_issue(&mut self, day: u16, lines: usize) {
-        self.lines = self.lines.wrapping_add(lines);
-        self.issues = self.issues.wrapping_add(1);
-        for i in 0..READ {
-            if i / 48 == usize::from(day) {
-                self.issued[i] = self.read[i];
+    fn keep_issue(&mut self, day: u16, lines: usize) -> Result<(), AllocError> {
+        for ((of, _), half_hour) in self.half_hours.iter_mut() {
+            if *of == day {
+                half_hour.issued = half_hour.read;
             }
         }
+        self.issues.push(lines)?;
+        Ok(())
     }
 
     // Keeps what came of a call.
-    fn keep(&mut self, call: &Call<'_>, came: Outcome) {
-        match (*call, came) {
-            (_, Outcome::Refused { .. }) => {
-                self.refusals = self.refusals.wrapping_add(1);
-            }
+    fn keep(&mut self, call: Call<'_>, came: Outcome) -> Result<(), AllocError> {
+        match (call, came) {
+            (_, Err(fault)) => self.refusals.push(fault)?,
             (
                 Call::Reading {
                     day,
@@ -209,89 +167,49 @@ impl Tally {
                     ..
                 },
                 _,
-            ) => self.keep_reading(day, period, kwh),
-            (Call::Issue { day, .. }, Outcome::Issued { lines }) => self.keep_issue(day, lines),
+            ) => self.half_hours.entry((day, period))?.or_default().read = kwh,
+            (Call::Issue { day, .. }, Ok(Accepted::Issued { lines })) => {
+                self.keep_issue(day, lines)?
+            }
             _ => {}
         }
+        Ok(())
     }
 
-    // Keeps what came of all calls.
-    fn keep_all(&mut self, calls: &[Call<'_>; CALLS], outcomes: &[Outcome; CALLS]) {
-        for i in 0..CALLS {
-            self.keep(&calls[i], outcomes[i]);
+    // How many lines all issues sent.
+    fn lines(&self) -> usize {
+        self.issues
+            .iter()
+            .fold(0, |sum: usize, lines| sum.saturating_add(*lines))
+    }
+
+    // Adds up the volumes of the lines.
+    fn add_up(&mut self, lines: &[Line]) -> Result<(), AllocError> {
+        for line in lines {
+            let half_hour = self.half_hours.entry((line.day, line.period))?.or_default();
+            half_hour.sent = half_hour.sent.wrapping_add(i64::from(line.volume));
         }
+        Ok(())
     }
-}
-
-// The volumes of the lines, added up by half hour.
-fn sums(lines: &[Line]) -> [i64; READ] {
-    let mut sums = [0; READ];
-    for line in lines {
-        let slot = half_hour(line.day, line.period);
-        if slot < READ {
-            sums[slot] = i64::wrapping_add(sums[slot], i64::from(line.volume));
-        }
-    }
-    sums
-}
-
-// The journal of the list, and what came of each call.
-fn replayed(
-    calls: &[Call<'_>; CALLS],
-    lines: &mut [Line; LINES],
-    outcomes: &mut [Outcome; CALLS],
-) -> Result<(), Fail> {
-    let mut holders = [NO_HOLDER; 6];
-    let mut rows = [NO_ROW; 144];
-    let mut readings = [Reading::NONE; READ];
-    let mut issued = [Slot::NONE; 288];
-    let _book = replay(
-        Terms::new(2, 3, 60)?,
-        House,
-        &mut holders,
-        &mut rows,
-        &mut readings,
-        &mut issued,
-        lines,
-        calls,
-        outcomes,
-    )?;
-    Ok(())
-}
-
-// The lines sent add up to what was last issued.
-fn compare(rt: &impl Abort, lines: &[Line; LINES], tally: Tally) -> Result<(), Fail> {
-    assert!(rt; tally.lines <= LINES);
-    let sums = sums(&lines[0..tally.lines]);
-    for i in 0..READ {
-        assert_eq!(rt; sums[i], i64::from(tally.issued[i]));
-    }
-    assert!(rt; tally.issues >= 10);
-    assert!(rt; tally.refusals >= 10);
-    Ok(())
 }
 
 #[test]
 fn lines_add_up(rt: HostRuntime) -> Result<(), Fail> {
-    let (one, two, three, refused) = ([SEVENTY; 48], [CAPPED; 48], [THIRTY; 48], [TOO_MUCH; 48]);
-    let lists = Lists {
-        one: &one,
-        two: &two,
-        three: &three,
-        refused: &refused,
-    };
-    let mut calls = [Call::Issue { day: 0, run: 1 }; CALLS];
-    fill(&mut calls, lists);
-    let mut lines = [NO_LINE; LINES];
-    let mut outcomes = [Outcome::Done; CALLS];
-    replayed(&calls, &mut lines, &mut outcomes)?;
-    let mut tally = Tally {
-        read: [0; READ],
-        issued: [0; READ],
-        lines: 0,
-        issues: 0,
-        refusals: 0,
-    };
-    tally.keep_all(&calls, &outcomes);
-    compare(&rt, &lines, tally)
+    let alloc = rt.alloc();
+    let lists = [[SEVENTY; 48], [CAPPED; 48], [THIRTY; 48], [TOO_MUCH; 48]];
+    let calls = calls(alloc, &lists)?;
+    let results = replayed(alloc, Terms::new(2, DAYS, 60)?, LINES, calls.as_slice())?;
+    let mut tally = Tally::new(alloc);
+    for (call, came) in calls.iter().zip(&results.outcomes) {
+        tally.keep(*call, *came)?;
+    }
+    let sent = tally.lines();
+    assert!(rt; sent <= results.journal.len());
+    tally.add_up(&results.journal[..sent])?;
+    for half_hour in tally.half_hours.values() {
+        assert_eq!(rt; half_hour.sent, i64::from(half_hour.issued));
+    }
+    assert!(rt; tally.issues.len() >= 10);
+    assert!(rt; tally.refusals.len() >= 10);
+    Ok(())
 }

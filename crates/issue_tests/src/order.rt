@@ -1,123 +1,107 @@
 // Which of two refusals of an issue comes first.
-use crate::desk::{DAY_1, Desk, Harm, Issue, READINGS, Refusal, SLOTS, begun};
-use domain::{Reading, Slot};
+use crate::desk::{DAY_1_FINAL, Desk, Issue, READINGS, Refusal, SLOTS, begun};
+use domain::{Quality, Reading, Slot};
 use std::process::Abort;
 use std::test::*;
 
-// Of what can be wrong, the refusal, in the order in which it is answered.
-const REFUSALS: [(u8, u64); 15] = [
-    (8, 1),
-    (8, 2),
-    (11, 3),
-    (11, 4),
-    (13, 1),
-    (13, 1),
-    (13, 2),
-    (13, 2),
-    (13, 3),
-    (13, 4),
-    (13, 5),
-    (16, 1),
-    (18, 20),
-    (19, 1),
-    (20, 4),
+// What can be wrong with an issue.
+#[derive(Clone, Copy, PartialEq)]
+enum Wrong {
+    DayOutside,
+    RunUnknown,
+    ReadingsCut,
+    SlotsCut,
+    HoldersCut,
+    HolderSpoiled,
+    RowsCut,
+    RowUnlawful,
+    ReadingSpoiled,
+    SlotSpoiled,
+    JournalCut,
+    DayClosed,
+    ReadingMissing,
+    HolderMissing,
+    JournalFull,
+}
+
+// A volume that was sent to nobody.
+const SPOILED: Slot = Slot {
+    supplier: 0,
+    volume: 1,
+};
+
+// What can be wrong, with its refusal, in the order in which it is answered.
+const REFUSALS: [(Wrong, (u8, u64)); 15] = [
+    (Wrong::DayOutside, (8, 1)),
+    (Wrong::RunUnknown, (8, 2)),
+    (Wrong::ReadingsCut, (11, 3)),
+    (Wrong::SlotsCut, (11, 4)),
+    (Wrong::HoldersCut, (13, 1)),
+    (Wrong::HolderSpoiled, (13, 1)),
+    (Wrong::RowsCut, (13, 2)),
+    (Wrong::RowUnlawful, (13, 2)),
+    (Wrong::ReadingSpoiled, (13, 3)),
+    (Wrong::SlotSpoiled, (13, 4)),
+    (Wrong::JournalCut, (13, 5)),
+    (Wrong::DayClosed, (16, 1)),
+    (Wrong::ReadingMissing, (18, 20)),
+    (Wrong::HolderMissing, (19, 1)),
+    (Wrong::JournalFull, (20, 4)),
 ];
-
-// One or two of them.
-#[derive(Clone, Copy)]
-struct Wrong {
-    one: usize,
-    other: usize,
-}
-
-impl Wrong {
-    fn has(self, which: usize) -> bool {
-        self.one == which || self.other == which
-    }
-
-    // How long the journal is lent: two lines are held and two are new, or four are held where the day is closed.
-    fn journal(self) -> usize {
-        let held = if self.has(11) { 4 } else { 2 };
-        if self.has(10) {
-            held - 1
-        } else if self.has(14) {
-            held + 1
-        } else {
-            held + 2
-        }
-    }
-
-    fn issue(self) -> Issue {
-        Issue {
-            holders: if self.has(4) { 1 } else { 2 },
-            rows: if self.has(6) { 47 } else { 48 },
-            readings: if self.has(2) { READINGS - 1 } else { READINGS },
-            issued: if self.has(3) { SLOTS - 1 } else { SLOTS },
-            journal: self.journal(),
-            day: if self.has(0) { 3 } else { 1 },
-            run: if self.has(1) { 0 } else { 2 },
-        }
-    }
-
-    // What is changed by hand where one of the tables' elements is wrong.
-    fn harm(self, which: usize) -> Harm {
-        if !self.has(which) {
-            return Harm::Nothing;
-        }
-        match which {
-            5 => Harm::HolderNobody { at: 0 },
-            7 => Harm::RowUnlawful { at: 47 },
-            8 => Harm::Metered {
-                at: 95,
-                reading: Reading { quality: 3, kwh: 0 },
-            },
-            9 => Harm::Sent {
-                at: 191,
-                slot: Slot {
-                    supplier: 0,
-                    volume: 1,
-                },
-            },
-            12 => Harm::Metered {
-                at: 67,
-                reading: Reading::NONE,
-            },
-            13 => Harm::HolderGone { at: 1 },
-            _ => Harm::Nothing,
-        }
-    }
-}
 
 // Closes day 1, and then reads more there than was issued, by hand.
 fn close(rt: &impl Abort, desk: &mut Desk) -> Result<(), Fail> {
-    assert_eq!(rt; desk.issue(Issue { run: 2, ..DAY_1 })?, None);
-    desk.harm(Harm::Metered {
-        at: 60,
-        reading: Reading {
-            quality: 2,
-            kwh: 40,
-        },
-    });
+    assert_eq!(rt; desk.issue(DAY_1_FINAL)?, None);
+    desk.readings[60] = Reading {
+        quality: Quality::Actual as u8,
+        kwh: 40,
+    };
     Ok(())
 }
 
-fn attempt(rt: &impl Abort, wrong: Wrong) -> Result<Refusal, Fail> {
+// What is wrong last is done first, so that what is wrong first stands. Only the day is closed before all else.
+fn attempt(rt: &impl Abort, one: Option<Wrong>, other: Option<Wrong>) -> Result<Refusal, Fail> {
     let mut desk = begun(rt)?;
-    if wrong.has(11) {
+    let closed = one == Some(Wrong::DayClosed) || other == Some(Wrong::DayClosed);
+    if closed {
         close(rt, &mut desk)?;
     }
-    for which in 0..REFUSALS.len() {
-        desk.harm(wrong.harm(which));
+    // how long the journal is lent: two lines are held and two are new, or four are held where the day is closed
+    let [cut, full, enough] = if closed { [3, 5, 6] } else { [1, 3, 4] };
+    let mut issue = Issue {
+        holders: 2,
+        journal: enough,
+        ..DAY_1_FINAL
+    };
+    for wrong in [other, one].into_iter().flatten() {
+        match wrong {
+            Wrong::DayOutside => issue.day = 3,
+            Wrong::RunUnknown => issue.run = 0,
+            Wrong::ReadingsCut => issue.readings = READINGS - 1,
+            Wrong::SlotsCut => issue.issued = SLOTS - 1,
+            Wrong::HoldersCut => issue.holders = 1,
+            Wrong::HolderSpoiled => desk.holders[0].entry = 0,
+            Wrong::RowsCut => issue.rows = 47,
+            Wrong::RowUnlawful => desk.rows[47].entry.balance = 0,
+            Wrong::ReadingSpoiled => desk.readings[95] = Reading { quality: 3, kwh: 0 },
+            Wrong::SlotSpoiled => desk.issued[191] = SPOILED,
+            Wrong::JournalCut => issue.journal = cut,
+            Wrong::DayClosed => {}
+            Wrong::ReadingMissing => desk.readings[67] = Reading::NONE,
+            Wrong::HolderMissing => desk.holders[1].subject = 9,
+            Wrong::JournalFull => issue.journal = full,
+        }
     }
-    desk.issue(wrong.issue())
+    desk.issue(issue)
 }
 
 #[test]
 fn of_two_the_first_is_answered(rt: HostRuntime) -> Result<(), Fail> {
-    assert_eq!(rt; attempt(&rt, Wrong { one: 99, other: 99 })?, None);
-    for (one, expected) in REFUSALS.iter().enumerate() {
-        for other in one..REFUSALS.len() {
-            assert_eq!(rt; attempt(&rt, Wrong { one, other })?, Some(*expected));
+    assert_eq!(rt; attempt(&rt, None, None)?, None);
+    for (at, (one, expected)) in REFUSALS.iter().enumerate() {
+        assert_eq!(rt; attempt(&rt, Some(*one), None)?, Some(*expected));
+        for (other, _) in REFUSALS.iter().skip(at + 1) {
+            assert_eq!(rt; attempt(&rt, Some(*one), Some(*other))?, Some(*expected));
         }
     }
     Ok(())

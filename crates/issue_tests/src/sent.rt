@@ -1,6 +1,6 @@
 // What an issue has sent: volumes, and statements of the lines.
 use crate::desk::{DAY_0, Desk, Issue, Refusal, SEVENTY, THIRTY, begun, ready, refusal};
-use domain::Line;
+use domain::{Line, Quality, Run};
 use files::read_statement;
 use std::test::*;
 
@@ -14,7 +14,7 @@ fn volumes(rt: HostRuntime) -> Result<(), Fail> {
     assert_eq!(rt; desk.volume(0, 12, 0)?, Some((0, 0)));
     assert_eq!(rt; desk.volume(1, 13, 0)?, None);
     // a later reading, and another issue
-    assert_eq!(rt; desk.read(0, 13, 2, 20), None);
+    assert_eq!(rt; desk.read(0, 13, Quality::Actual, 20), None);
     assert_eq!(rt; desk.volume(0, 13, 0)?, Some((21, 0)));
     assert_eq!(rt; desk.issue(DAY_0)?, None);
     assert_eq!(rt; desk.volume(0, 13, 0)?, Some((14, 0)));
@@ -84,7 +84,7 @@ fn line(place: u8, supplier: u16, volume: i32) -> Line {
         period: 13,
         place,
         supplier,
-        run: 1,
+        run: Run::Initial as u8,
         volume,
     }
 }
@@ -96,8 +96,11 @@ fn read_back(rt: HostRuntime) -> Result<(), Fail> {
     assert_eq!(rt; desk.book.statement(&desk.journal, 0, 2, &mut out)?, 30);
     let statement = read_statement(&out[0..30])?;
     assert_eq!(rt; statement.count, 2);
-    assert_eq!(rt; statement.line(0).ok_or("no line")?, line(0, 101, 21));
-    assert_eq!(rt; statement.line(1).ok_or("no line")?, line(1, 102, 9));
-    assert!(rt; statement.line(2).is_none());
+    assert_eq!(rt;
+        statement.records.get(0).ok_or("no line")?,
+        line(0, 101, 21)
+    );
+    assert_eq!(rt; statement.records.get(1).ok_or("no line")?, line(1, 102, 9));
+    assert!(rt; statement.records.get(2).is_none());
     Ok(())
 }

@@ -1,6 +1,6 @@
 // What an issue finds in the tables: 13 of an element, 18 and 19, before the end day and from it on.
 use crate::desk::{DAY_1, Harm, Issue, Refusal, begun};
-use domain::{Reading, Slot};
+use domain::{Quality, Reading, Slot};
 use std::process::Abort;
 use std::test::*;
 
@@ -21,7 +21,7 @@ fn sent(at: usize, supplier: u16, volume: i32) -> Harm {
 // The answer to an issue of day 1 after a change.
 fn after(rt: &impl Abort, harm: Harm) -> Result<Refusal, Fail> {
     let mut desk = begun(rt)?;
-    desk.harm(harm);
+    desk.harm(harm)?;
     desk.issue(DAY_1)
 }
 
@@ -74,12 +74,12 @@ fn issued(rt: HostRuntime) -> Result<(), Fail> {
 #[test]
 fn first_empty_reading(rt: HostRuntime) -> Result<(), Fail> {
     let mut desk = begun(&rt)?;
-    desk.harm(metered(87, 0, 0));
-    desk.harm(metered(52, 0, 0));
+    desk.harm(metered(87, 0, 0))?;
+    desk.harm(metered(52, 0, 0))?;
     assert_eq!(rt; desk.issue(DAY_1)?, Some((18, 5)));
-    assert_eq!(rt; desk.read(1, 5, 1, 0), None);
+    assert_eq!(rt; desk.read(1, 5, Quality::Estimated, 0), None);
     assert_eq!(rt; desk.issue(DAY_1)?, Some((18, 40)));
-    assert_eq!(rt; desk.read(1, 40, 1, 0), None);
+    assert_eq!(rt; desk.read(1, 40, Quality::Estimated, 0), None);
     assert_eq!(rt; desk.issue(DAY_1)?, None);
     Ok(())
 }
@@ -87,8 +87,8 @@ fn first_empty_reading(rt: HostRuntime) -> Result<(), Fail> {
 #[test]
 fn first_place_without_a_holder(rt: HostRuntime) -> Result<(), Fail> {
     let mut desk = begun(&rt)?;
-    desk.harm(Harm::HolderGone { at: 0 });
-    desk.harm(Harm::HolderGone { at: 1 });
+    desk.harm(Harm::HolderGone { at: 0 })?;
+    desk.harm(Harm::HolderGone { at: 1 })?;
     assert_eq!(rt; desk.issue(DAY_1)?, Some((19, 0)));
     // a holder from the next day on is not in force
     desk.book.register(&mut desk.holders, 0, 2, 103)?;
@@ -99,19 +99,29 @@ fn first_place_without_a_holder(rt: HostRuntime) -> Result<(), Fail> {
 }
 
 // A change, the refusal of an issue of day 0, before the end day, and of day 1, the end day.
-const ENDED: [(Harm, Refusal, Refusal); 6] = [
-    (Harm::Nothing, None, None),
-    (Harm::HolderNobody { at: 0 }, Some((13, 1)), Some((13, 1))),
-    (Harm::HolderNobody { at: 1 }, Some((13, 1)), None),
-    (Harm::RowUnlawful { at: 47 }, Some((13, 2)), None),
-    (Harm::HolderGone { at: 0 }, Some((19, 0)), Some((19, 0))),
-    (Harm::HolderGone { at: 1 }, Some((19, 1)), None),
+const ENDED: [(Option<Harm>, Refusal, Refusal); 6] = [
+    (None, None, None),
+    (
+        Some(Harm::HolderNobody { at: 0 }),
+        Some((13, 1)),
+        Some((13, 1)),
+    ),
+    (Some(Harm::HolderNobody { at: 1 }), Some((13, 1)), None),
+    (Some(Harm::RowUnlawful { at: 47 }), Some((13, 2)), None),
+    (
+        Some(Harm::HolderGone { at: 0 }),
+        Some((19, 0)),
+        Some((19, 0)),
+    ),
+    (Some(Harm::HolderGone { at: 1 }), Some((19, 1)), None),
 ];
 
-fn on_day(rt: &impl Abort, harm: Harm, day: u16, rows: usize) -> Result<Refusal, Fail> {
+fn on_day(rt: &impl Abort, harm: Option<Harm>, day: u16, rows: usize) -> Result<Refusal, Fail> {
     let mut desk = begun(rt)?;
     desk.book.end(&desk.holders, 101, 1, 2_820)?;
-    desk.harm(harm);
+    if let Some(harm) = harm {
+        desk.harm(harm)?;
+    }
     desk.issue(Issue { day, rows, ..DAY_1 })
 }
 
@@ -123,8 +133,8 @@ fn around_the_end(rt: HostRuntime) -> Result<(), Fail> {
         assert_eq!(rt; on_day(&rt, harm, 2, 48)?, since);
     }
     // the rows are counted from the end day on too
-    assert_eq!(rt; on_day(&rt, Harm::Nothing, 0, 47)?, Some((13, 2)));
-    assert_eq!(rt; on_day(&rt, Harm::Nothing, 1, 47)?, Some((13, 2)));
+    assert_eq!(rt; on_day(&rt, None, 0, 47)?, Some((13, 2)));
+    assert_eq!(rt; on_day(&rt, None, 1, 47)?, Some((13, 2)));
     Ok(())
 }
 

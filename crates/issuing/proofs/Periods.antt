@@ -1,14 +1,16 @@
 -- The lines and slots of a day, place by place and period by period.
-use Rattle.std.proofs.Common.{◌≡◌, ℕ, zero, suc, ◌+◌, ◌*◌, ◌<◌, ◌≤◌, List, length, get_or, set, refl, ap, ◌∙◌, arith}
+use Rattle.std.proofs.Common.{◌≡◌, subst, sym, ◌-◌, ℕ, zero, suc, ◌+◌, ◌*◌, ◌<◌, ◌≤◌, List, length, get_or, set, refl, ap, ◌∙◌, arith}
 use Rattle.domain.specs.Slots.{reading_slot, issued_slot}
 use Rattle.domain.specs.Checks.{slot_at, no_volume}
-use Rattle.domain.specs.Lines.{line_of, slot_lines}
+use Rattle.domain.specs.Limits.{periods}
+use Rattle.domain.specs.Lines.{line_of, slot_lines, gathered}
+use Rattle.domain.specs.declared.Line.{Line}
 use Rattle.domain.specs.declared.Slot.{Slot}
 use Rattle.domain.specs.declared.terms.Terms.{Terms}
 use Rattle.rows.specs.Rows.{Tame}
-use Rattle.issuing.specs.Posted.{filled}
-use Rattle.issuing.specs.Days.{place_lines, period_lines, lines_before, filled_before}
-use Rattle.issuing.proofs.Gathered.{length_gathered_more, gathered_most, gathered_same, filled_more, length-filled, get_or_filled_above}
+use Rattle.issuing.specs.Posted.{posted, filled}
+use Rattle.issuing.specs.Days.{place_lines, period_lines, lines_before, lines_of, filled_before}
+use Rattle.issuing.proofs.Gathered.{length_gathered_more, gathered_most, gathered_same, filled_more, length-filled, get_or_filled_above, turn_count, turn_room, turn_end, turn_journal}
 use Rattle.issuing.proofs.Sent.{slot_most}
 
 module _ (t : Terms) (next : ℕ → ℕ → Slot) (day run : ℕ) where
@@ -87,3 +89,42 @@ module _ (t : Terms) (next : ℕ → ℕ → Slot) (day run i : ℕ) (issued u :
 
   pub later_tame : ((q : ℕ) → q < t.places → Tame (slot_at t issued day (i + 1) q).volume) → (q : ℕ) → q < t.places → Tame (slot_at t u day (i + 1) q).volume
   later_tame h q l = rw (later_slot q) (h q l)
+
+-- one period more, counted from 1
+module _ (t : Terms) (next : ℕ → ℕ → Slot) (day run : ℕ) (issued : List Slot) (p : ℕ) (low : 1 ≤ p) where
+  abbrev lines : ℕ → List Line
+  lines i = period_lines t issued next day run (i + 1) t.places
+
+  again : p ≡ p - 1 + 1
+  again = omega arith
+
+  after : p - 1 + 1 ≡ p + 1 - 1
+  after = omega arith
+
+  pub period_count : (n r : ℕ) → n ≡ length (lines_before t issued next day run (p - 1)) → r ≡ length (period_lines t issued next day run p t.places) → n + r ≡ length (lines_before t issued next day run (p + 1 - 1))
+  period_count n r e h =
+      turn_count lines (p - 1) n r e (h ∙ ap (λ (k : ℕ). length (period_lines t issued next day run k t.places)) again) ∙ ap (λ (k : ℕ). length (gathered lines k)) after
+
+  -- its lines are sent from `end` on, from a table that the periods before it have filled
+  module _ (at end : ℕ) (u : List Slot) (ended : end ≡ at + length (lines_before t issued next day run (p - 1))) (came : u ≡ filled_before t.places next day (p - 1) issued) where
+    abbrev sent_now : List Line
+    sent_now = period_lines t u next day run p t.places
+
+    sent_is : sent_now ≡ lines (p - 1)
+    sent_is =
+        ap (λ (k : ℕ). period_lines t u next day run k t.places) again ∙ later_lines t next day run (p - 1) issued u came
+
+    pub period_tame : ((q : ℕ) → q < t.places → Tame (slot_at t issued day p q).volume) → (q : ℕ) → q < t.places → Tame (slot_at t u day p q).volume
+    period_tame =
+        let P : ℕ → Type 0 = λ k. ((q : ℕ) → q < t.places → Tame (slot_at t issued day k q).volume) → (q : ℕ) → q < t.places → Tame (slot_at t u day k q).volume in
+        subst P (sym again) (later_tame t next day run (p - 1) issued u came)
+
+    pub period_room : (room : ℕ) → p ≤ periods → at + length (lines_of t issued next day run) ≤ room → end + length sent_now ≤ room
+    period_room room high fits =
+        turn_room lines (p - 1) periods at end room sent_now sent_is ended (omega arith) fits
+
+    pub period_sent : (j k m : List Line) (r : ℕ) (v : List Slot) → at ≤ length j → k ≡ posted j at (lines_before t issued next day run (p - 1)) → r ≡ end + length sent_now → m ≡ posted k end sent_now → v ≡ filled (next p) (reading_slot day p * t.places) t.places u → (r ≡ at + length (lines_before t issued next day run (p + 1 - 1))) × (m ≡ posted j at (lines_before t issued next day run (p + 1 - 1))) × (v ≡ filled_before t.places next day (p + 1 - 1) issued)
+    period_sent j k m r v within before more sent filled_now =
+        let P : ℕ → Type 0 = λ i. (r ≡ at + length (lines_before t issued next day run i)) × (m ≡ posted j at (lines_before t issued next day run i)) × (v ≡ filled_before t.places next day i issued) in
+        let slots = filled_now ∙ ap (λ (i : ℕ). filled (next i) (reading_slot day i * t.places) t.places u) again ∙ ap (filled (next (p - 1 + 1)) (reading_slot day (p - 1 + 1) * t.places) t.places) came ∙ days_more t.places next day (p - 1) issued in
+        subst P after (turn_end lines (p - 1) at end r sent_now sent_is ended more, turn_journal lines (p - 1) at end sent_now j k m within sent_is ended before sent, slots)

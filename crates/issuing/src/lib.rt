@@ -8,16 +8,18 @@ ghost use Rattle.issuing.specs.Issue.{call_checked, standing_checked, issue_chec
 ghost use Rattle.issuing.specs.Known.{Prepared};
 
 use checks::{complete_holders, complete_readings, sound_readings, sound_slots};
-use domain::{AllocationRow, Fault, Line, Reading, Slot, Table, Terms, admit};
+use domain::{AllocationRow, Fault, Line, Reading, Run, Slot, Table, Terms, admit};
 use history::Dated;
-use posting::Plan;
+use plan::Plan;
 use rules::Rule;
-use sheet::{Sheet, is_ended};
+use sheet::Sheet;
 
 mod checks;
 mod lines;
+mod plan;
 mod posting;
 mod sheet;
+
 // What the book knows of itself when it issues a day.
 #[derive(Clone, Copy)]
 pub struct Standing {
@@ -31,98 +33,79 @@ pub struct Standing {
     pub closed: bool,
 }
 
-// Refuses arguments outside their limits and tables of another size.
-fn admit_call(
-    terms: Terms,
-    readings: &[Reading],
-    issued: &[Slot],
-    day: u16,
-    run: u8,
-) -> Result<(), Fault>
-    ensures { result ≡ call_checked terms readings.now issued.now day run (Ok tt) }
-{
-    admit(1, terms.has_day(day))?;
-    admit(2, run == 1 || run == 2)?;
-    terms.fit_readings(readings)?;
-    terms.fit_issued(issued)
+// A day to be issued, by which rule and terms, and the tables that are read for it.
+#[derive_where(Clone, Copy)]
+pub struct Order<'a, R> {
+    pub rule: &'a R,
+    pub terms: Terms,
+    pub standing: Standing,
+    pub holders: &'a [Dated<u16>],
+    pub rows: &'a [Dated<AllocationRow>],
+    pub readings: &'a [Reading],
+    pub day: u16,
+    // the number of the run, as calls give it and the journal stores it
+    pub run: u8,
 }
 
-// Refuses a journal that has less than was sent, and a closed day.
-fn admit_day(standing: Standing, room: usize, day: u16) -> Result<(), Fault>
-    ensures { result ≡ standing_checked standing room day (Ok tt) }
-{
-    if standing.lines > room {
-        return Err(Fault::Spoiled {
-            table: Table::Journal,
-        });
+impl<R: Rule> Order<'_, R> {
+    // Refuses arguments outside their limits and tables of another size.
+    fn admit_call(self, issued: &[Slot]) -> Result<(), Fault>
+        ensures { result ≡ call_checked self.entry.terms self.entry.readings.now issued.now self.entry.day self.entry.run (Ok tt) }
+    {
+        admit(1, self.terms.has_day(self.day))?;
+        admit(2, Run::try_from(self.run).is_ok())?;
+        self.terms.fit_readings(self.readings)?;
+        self.terms.fit_issued(issued)
     }
-    if standing.closed {
-        return Err(Fault::DayClosed { day });
-    }
-    Ok(())
-}
 
-// All checks of an issue that come before its lines are counted; what is in force on the day where they are passed.
-fn prepare<R: Rule>(
-    rule: &R,
-    terms: Terms,
-    standing: Standing,
-    holders: &[Dated<u16>],
-    rows: &[Dated<AllocationRow>],
-    readings: &[Reading],
-    issued: &[Slot],
-    room: usize,
-    day: u16,
-    run: u8,
-) -> Result<Sheet, Fault>
-    ensures { MatchResult result (Prepared (R.Rule.meaning rule.now) terms standing holders.now rows.now readings.now issued.now room day run) (λ e. Err e ≡ issue_checked (R.Rule.meaning rule.now) terms standing holders.now rows.now readings.now {A = Unit} issued.now room day run (Ok tt)) }
-{
-    admit_call(terms, readings, issued, day, run)?;
-    let sheet = Sheet::on_day(rule, terms, standing, holders, rows, day)?;
-    sound_readings(readings, day)?;
-    sound_slots(terms, issued, day)?;
-    admit_day(standing, room, day)?;
-    complete_readings(readings, day)?;
-    complete_holders(terms, &sheet.holders, is_ended(standing.ended, day))?;
-    Ok(sheet)
-}
-
-// Issues a day: sends the lines that lead each slot of the day from what was issued to what it is to have, and says how many.
-pub fn issue<R: Rule>(
-    rule: &R,
-    terms: Terms,
-    standing: Standing,
-    holders: &[Dated<u16>],
-    rows: &[Dated<AllocationRow>],
-    readings: &[Reading],
-    issued: &mut [Slot],
-    journal: &mut [Line],
-    day: u16,
-    run: u8,
-) -> Result<usize, Fault>
-    ensures answer { result ≡ issue_answer (R.Rule.meaning rule.now) terms standing holders.now rows.now readings.now issued.old (length journal.old) day run }
-    ensures issued { issued.new ≡ settled result (issued_after (R.Rule.meaning rule.now) terms standing holders.now rows.now readings.now issued.old day) issued.old }
-    ensures journal { journal.new ≡ settled result (posted journal.old standing.lines (day_lines (R.Rule.meaning rule.now) terms standing holders.now rows.now readings.now issued.old day run)) journal.old }
-{
-    let room = journal.len();
-    let sheet = prepare(
-        rule, terms, standing, holders, rows, readings, issued, room, day, run,
-    )?;
-    let plan = Plan {
-        rule,
-        terms,
-        readings,
-        sheet: &sheet,
-        day,
-        run,
-    };
-    let new = plan.count(issued);
-    let short = new > room - standing.lines;
-    if short {
-        return Err(Fault::JournalTooShort {
-            needed: standing.lines + new,
-        });
+    // Refuses a journal that has less than was sent, and a closed day.
+    fn admit_day(self, room: usize) -> Result<(), Fault>
+        ensures { result ≡ standing_checked self.entry.standing room self.entry.day (Ok tt) }
+    {
+        if self.standing.lines > room {
+            return Err(Fault::Spoiled {
+                table: Table::Journal,
+            });
+        }
+        if self.standing.closed {
+            return Err(Fault::DayClosed { day: self.day });
+        }
+        Ok(())
     }
-    plan.send(issued, journal, standing.lines);
-    Ok(new)
+
+    // All checks of an issue that come before its lines are counted; what is in force on the day where they are passed.
+    fn prepare(self, issued: &[Slot], room: usize) -> Result<Sheet, Fault>
+        ensures { MatchResult result (Prepared (R.Rule.meaning self.entry.rule.now) self.entry.terms self.entry.standing self.entry.holders.now self.entry.rows.now self.entry.readings.now issued.now room self.entry.day self.entry.run) (λ e. Err e ≡ issue_checked (R.Rule.meaning self.entry.rule.now) self.entry.terms self.entry.standing self.entry.holders.now self.entry.rows.now self.entry.readings.now {A = Unit} issued.now room self.entry.day self.entry.run (Ok tt)) }
+    {
+        self.admit_call(issued)?;
+        let sheet = self.sheet()?;
+        sound_readings(self.readings, self.day)?;
+        sound_slots(self.terms, issued, self.day)?;
+        self.admit_day(room)?;
+        complete_readings(self.readings, self.day)?;
+        complete_holders(self.terms, &sheet.holders, self.is_ended())?;
+        Ok(sheet)
+    }
+
+    // Issues the day: sends the lines that lead each slot of the day from what was issued to what it is to have, and says how many.
+    pub fn issue(self, issued: &mut [Slot], journal: &mut [Line]) -> Result<usize, Fault>
+        ensures answer { result ≡ issue_answer (R.Rule.meaning self.entry.rule.now) self.entry.terms self.entry.standing self.entry.holders.now self.entry.rows.now self.entry.readings.now issued.old (length journal.old) self.entry.day self.entry.run }
+        ensures issued { issued.new ≡ settled result (issued_after (R.Rule.meaning self.entry.rule.now) self.entry.terms self.entry.standing self.entry.holders.now self.entry.rows.now self.entry.readings.now issued.old self.entry.day) issued.old }
+        ensures journal { journal.new ≡ settled result (posted journal.old self.entry.standing.lines (day_lines (R.Rule.meaning self.entry.rule.now) self.entry.terms self.entry.standing self.entry.holders.now self.entry.rows.now self.entry.readings.now issued.old self.entry.day self.entry.run)) journal.old }
+    {
+        let room = journal.len();
+        let sheet = self.prepare(issued, room)?;
+        let plan = Plan {
+            order: self,
+            sheet: &sheet,
+        };
+        // the lines are counted before any is sent, so that a refused issue writes nothing
+        let new = plan.count(issued);
+        let sent = self.standing.lines;
+        if new > room - sent {
+            return Err(Fault::JournalTooShort { needed: sent + new });
+        }
+        plan.send(issued, journal, sent);
+        Ok(new)
+    }
 }

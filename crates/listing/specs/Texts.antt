@@ -1,13 +1,13 @@
 -- What is printed of a file: a line for its kind and numbers, a line that names the columns, and a line for each record.
-use Rattle.std.specs.Prelude.{ℕ, ◌+◌, ◌/◌, cond, List, [], ◌∷◌, ◌++◌, length, Ok, Err, codes, decimal, Result, ◌==◌, nat_lt, slice_index}
+use Rattle.std.specs.Prelude.{ℕ, ◌+◌, cond, List, [], ◌∷◌, ◌++◌, length, Ok, Err, codes, decimal, Result, ◌==◌, nat_lt, slice_index}
 use Rattle.std.specs.List.{flat_map}
-use Rattle.std.specs.Fmt.{signed_decimal}
-use Rattle.domain.specs.Refusals.{refused}
+use Rattle.domain.specs.Texts as domain
+use Rattle.files.specs.Texts as files
 use Rattle.domain.specs.declared.AllocationRow.{AllocationRow}
 use Rattle.domain.specs.declared.Line.{Line}
 use Rattle.domain.specs.declared.Fault.{Fault}
 use Rattle.domain.specs.declared.Fault.TheVariants.{FileTooShort, AnotherMark, AnotherVersion, AnotherKind, CountNotAllowed, AnotherLength, TermOutsideLimits, ArgumentOutsideLimits, UnlawfulRow, AfterGate, AnotherSize, OutputTooShort, Spoiled, SenderNotPrimary, SharingEnded, DayClosed, EstimateOverActual, ReadingMissing, HolderMissing, JournalTooShort, HistoryFull}
-use Rattle.files.specs.Bytes.{unpacked}
+use Rattle.files.specs.Bytes.{records_in}
 use Rattle.files.specs.Records.{row_size, decoded_row, reading_size, decoded_reading, line_size, decoded_line}
 use Rattle.files.specs.Formats.{most_bytes}
 use Rattle.files.specs.Reads.{Told, read_of}
@@ -21,13 +21,13 @@ spaced n = 32 ∷ decimal n
 abbrev pub row_text : ℕ → AllocationRow → List ℕ
 row_text period row = decimal period ++ (codes " " ++ (decimal row.method ++ (codes " " ++ (decimal row.balance ++ (flat_map spaced row.nominations ++ (10 ∷ []))))))
 
--- a reading: its day, period, quality and kWh
+-- a reading, on a line of its own
 abbrev pub reading_text : ReadingRecord → List ℕ
-reading_text r = decimal r.day ++ (codes " " ++ (decimal r.period ++ (codes " " ++ (decimal r.quality ++ (codes " " ++ (decimal r.kwh ++ codes "\n"))))))
+reading_text r = files.reading_text r ++ codes "\n"
 
--- a line: its day, period, place, supplier, run and volume
+-- a line of a statement, on a line of its own
 abbrev pub line_text : Line → List ℕ
-line_text l = decimal l.day ++ (codes " " ++ (decimal l.period ++ (codes " " ++ (decimal l.place ++ (codes " " ++ (decimal l.supplier ++ (codes " " ++ (decimal l.run ++ (codes " " ++ (signed_decimal l.volume ++ codes "\n"))))))))))
+line_text l = domain.line_text l ++ codes "\n"
 
 -- rows one after the other, by their periods
 unfoldable pub rows_text : ℕ → List AllocationRow → List ℕ
@@ -60,25 +60,25 @@ words (HistoryFull needed) = codes "the history is too short for the entries nee
 
 -- a refusal: its number and spot, and what it means
 abbrev pub refusal_text : Fault → List ℕ
-refusal_text fault = codes "refused " ++ (decimal (refused fault).0 ++ (codes " " ++ (decimal (refused fault).1 ++ (codes ": " ++ (words fault ++ codes "\n")))))
+refusal_text fault = domain.refusal_text fault ++ (codes ": " ++ (words fault ++ codes "\n"))
 
 -- a schedule: its count, sender, day and moment, the columns, and its rows by period
 abbrev pub schedule_text : List ℕ → List ℕ → List ℕ
 schedule_text numbers records =
     codes "schedule: " ++ (decimal (slice_index numbers 0) ++ (codes " rows, sender " ++ (decimal (slice_index numbers 1) ++ (codes ", day " ++ (decimal (slice_index numbers 2) ++ (codes ", moment " ++ (decimal (slice_index numbers 3) ++ codes "\nperiod method balance n0 n1 n2 n3 n4 n5 n6 n7\n")))))))
-    ++ rows_text 1 (unpacked decoded_row row_size (length records / row_size) records)
+    ++ rows_text 1 (records_in decoded_row row_size records)
 
 -- a readings file: its count, the columns, and its readings
 abbrev pub readings_text : List ℕ → List ℕ → List ℕ
 readings_text numbers records =
     codes "readings: " ++ (decimal (slice_index numbers 0) ++ codes " records\nday period quality kwh\n")
-    ++ flat_map reading_text (unpacked decoded_reading reading_size (length records / reading_size) records)
+    ++ flat_map reading_text (records_in decoded_reading reading_size records)
 
 -- a statement: its count, the columns, and its lines
 abbrev pub statement_text : List ℕ → List ℕ → List ℕ
 statement_text numbers records =
     codes "statement: " ++ (decimal (slice_index numbers 0) ++ codes " lines\nday period place supplier run volume\n")
-    ++ flat_map line_text (unpacked decoded_line line_size (length records / line_size) records)
+    ++ flat_map line_text (records_in decoded_line line_size records)
 
 -- what a file says, by its kind
 abbrev pub told_text : Told → List ℕ

@@ -2,14 +2,14 @@
 
 #![tactic(auto)]
 
-ghost use Rattle.std.specs.Prelude.{◌≡◌, ◌++◌, IfOk, string_bytes, OnOk};
-ghost use Rattle.std.specs.List.{flat_map};
+ghost use Rattle.std.specs.Prelude.{◌≡◌, ◌++◌, Some, IfOk, string_bytes, OnOk};
 ghost use Rattle.files.specs.Reads.{told_schedule, told_readings, told_statement};
-ghost use Rattle.listing.specs.Texts.{spaced, row_text, reading_text, line_text, words, refusal_text, told_text, listing_of};
+ghost use Rattle.listing.specs.Texts.{row_text, words, refusal_text, told_text, listing_of};
 
-use domain::{AllocationRow, Fault, Line};
-use files::{File, MAX_FILE, ReadingRecord, ReadingsFile, ScheduleFile, StatementFile, read};
+use domain::{AllocationRow, Fault};
+use files::{File, Intro, MAX_FILE, ReadingsFile, ScheduleFile, StatementFile, read};
 use std::alloc::{AllocError, Global};
+use std::fmt;
 
 // What a refusal means.
 fn meaning(fault: Fault) -> &'static str
@@ -40,85 +40,51 @@ fn meaning(fault: Fault) -> &'static str
     }
 }
 
-// Adds a refusal to the text.
-fn put_refusal(text: &mut String, fault: Fault) -> Result<(), AllocError>
-    ensures { OnOk result (string_bytes text.new ≡ string_bytes text.old ++ refusal_text fault) }
-{
-    let number = fault.number();
-    let spot = fault.spot();
-    let meaning = meaning(fault);
-    write!(text, "refused {number} {spot}: {meaning}\n")
+// A row as it is printed: its period, then what it says.
+#[derive(Clone, Copy)]
+struct PeriodRow {
+    period: usize,
+    row: AllocationRow,
 }
 
-// Adds nominations to the text, each behind a space.
-fn put_nominations(text: &mut String, nominations: &[u32]) -> Result<(), AllocError>
-    ensures { OnOk result (string_bytes text.new ≡ string_bytes text.old ++ flat_map spaced nominations.now) }
-{
-    for nomination in nominations {
-        write!(text, " {nomination}")?;
+impl fmt::Display for PeriodRow {
+    ghost output = { λ line. Some (row_text line.period line.row) };
+
+    fn fmt<W: fmt::Write>(&self, f: &mut fmt::Formatter<W>) -> fmt::Result {
+        let period = self.period;
+        let AllocationRow {
+            method,
+            balance,
+            nominations,
+        } = self.row;
+        write!(f, "{period} {method} {balance}")?;
+        for nomination in nominations.as_slice() {
+            write!(f, " {nomination}")?;
+        }
+        write!(f, "\n")
     }
-    Ok(())
 }
 
-// Adds a row's line to the text.
-fn put_row(text: &mut String, period: usize, row: AllocationRow) -> Result<(), AllocError>
-    ensures { OnOk result (string_bytes text.new ≡ string_bytes text.old ++ row_text period row) }
-{
-    let method = row.method;
-    let balance = row.balance;
-    write!(text, "{period} {method} {balance}")?;
-    put_nominations(text, &row.nominations)?;
-    write!(text, "\n")?;
-    Ok(())
-}
-
-// Adds a reading's line to the text.
-fn put_reading(text: &mut String, reading: ReadingRecord) -> Result<(), AllocError>
-    ensures { OnOk result (string_bytes text.new ≡ string_bytes text.old ++ reading_text reading) }
-{
-    let ReadingRecord {
-        day,
-        period,
-        quality,
-        kwh,
-    } = reading;
-    write!(text, "{day} {period} {quality} {kwh}\n")
-}
-
-// Adds a statement's line to the text.
-fn put_line(text: &mut String, line: Line) -> Result<(), AllocError>
-    ensures { OnOk result (string_bytes text.new ≡ string_bytes text.old ++ line_text line) }
-{
-    let Line {
-        day,
-        period,
-        place,
-        supplier,
-        run,
-        volume,
-    } = line;
-    write!(text, "{day} {period} {place} {supplier} {run} {volume}\n")
-}
-
-// Adds a schedule to the text.
+// Adds a schedule to the text. This and the functions below choose headings and records; a record, a row and a fault print by Display.
 fn put_schedule(text: &mut String, file: ScheduleFile<'_>) -> Result<(), AllocError>
     ensures { OnOk result (string_bytes text.new ≡ string_bytes text.old ++ told_text (told_schedule file.entry)) }
 {
-    let ScheduleFile {
-        count,
+    let count = file.count;
+    let Intro {
         sender,
         day,
         moment,
-        ..
-    } = file;
+    } = file.intro;
     write!(
         text,
         "schedule: {count} rows, sender {sender}, day {day}, moment {moment}\nperiod method balance n0 n1 n2 n3 n4 n5 n6 n7\n"
     )?;
-    let mut index = 0;
-    while let Some(row) = file.row(index) {
-        index += 1;
-        put_row(text, index, row)?;
+    for (index, row) in file.rows.iter().enumerate() {
+        let line = PeriodRow {
+            period: index + 1,
+            row,
+        };
+        write!(text, "{line}")?;
     }
     Ok(())
 }
@@ -129,10 +95,8 @@ fn put_readings(text: &mut String, file: ReadingsFile<'_>) -> Result<(), AllocEr
 {
     let count = file.count;
     write!(text, "readings: {count} records\nday period quality kwh\n")?;
-    let mut index = 0;
-    while let Some(reading) = file.reading(index) {
-        index += 1;
-        put_reading(text, reading)?;
+    for reading in file.records.iter() {
+        write!(text, "{reading}\n")?;
     }
     Ok(())
 }
@@ -146,12 +110,18 @@ fn put_statement(text: &mut String, file: StatementFile<'_>) -> Result<(), Alloc
         text,
         "statement: {count} lines\nday period place supplier run volume\n"
     )?;
-    let mut index = 0;
-    while let Some(line) = file.line(index) {
-        index += 1;
-        put_line(text, line)?;
+    for line in file.records.iter() {
+        write!(text, "{line}\n")?;
     }
     Ok(())
+}
+
+// Adds a refusal to the text, with what it means.
+fn put_refusal(text: &mut String, fault: Fault) -> Result<(), AllocError>
+    ensures { OnOk result (string_bytes text.new ≡ string_bytes text.old ++ refusal_text fault) }
+{
+    let meaning = meaning(fault);
+    write!(text, "{fault}: {meaning}\n")
 }
 
 // The text that is printed of the bytes. It fails only for want of memory.

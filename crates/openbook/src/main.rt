@@ -5,29 +5,21 @@ ghost use Rattle.std.specs.Prelude.{◌≡◌, IfOk};
 ghost use Rattle.files.specs.Contents.{notice_of};
 
 use book::Book;
-use domain::{AllocationRow, Fault, Reading, Slot, Terms};
+use domain::{AllocationRow, Fault, PERIODS, Reading, Slot, Terms};
 use history::Dated;
-use rules::{House, Rule};
+use rules::House;
 use std::{fmt, io};
+
+// The harbour has two places and three days.
+const PLACES: usize = 2;
+
+const HALF_HOURS: usize = 3 * PERIODS as usize;
 
 // 70% for the cold store, at place 0, and the rest for the boatyard, at place 1.
 const SEVENTY: AllocationRow = AllocationRow {
     method: 1,
     balance: 1,
     nominations: [7_000, 0, 0, 0, 0, 0, 0, 0],
-};
-
-// The tables as they are lent at first. What lies behind the entries held counts for nothing.
-const NO_HOLDER: Dated<u16> = Dated {
-    subject: 0,
-    day: 0,
-    entry: 0,
-};
-
-const NO_ROW: Dated<AllocationRow> = Dated {
-    subject: 0,
-    day: 0,
-    entry: SEVENTY,
 };
 
 // Bytes as two hexadecimal digits each.
@@ -43,124 +35,117 @@ impl fmt::Display for Hex<'_> {
     }
 }
 
-// Schedules the same row for all of a day, and answers the notice that confirms it.
-fn schedule_day<R: Rule>(
-    book: &mut Book<R>,
-    holders: &[Dated<u16>],
-    rows: &mut [Dated<AllocationRow>],
-    sender: u16,
-    day: u16,
-    moment: u32,
-) -> Result<[u8; 16], Fault>
-    ensures { IfOk result (λ bytes. bytes ≡ notice_of day sender moment) }
-{
-    let receipt = book.schedule(holders, rows, sender, day, moment, &[SEVENTY; 48])?;
-    Ok(receipt.confirm())
-}
-
-fn refused(rt: &HostRuntime, fault: Fault) -> io::Result<()> {
-    println!(rt; "refused {} {}", fault.number(), fault.spot())
-}
-
-fn answered(rt: &HostRuntime, answer: Result<(), Fault>) -> io::Result<()> {
+fn answered(rt: &impl Print, answer: Result<(), Fault>) -> io::Result<()> {
     match answer {
         Ok(()) => println!(rt; "accepted"),
-        Err(fault) => refused(rt, fault),
+        Err(fault) => println!(rt; "{fault}"),
     }
 }
 
-fn blank(
-    rt: &HostRuntime,
-    book: &Book<House>,
-    readings: &mut [Reading],
-    issued: &mut [Slot],
-) -> io::Result<()> {
-    print!(rt; "blank: ")?;
-    answered(rt, book.blank(readings, issued))
+// The book of the harbour, and its tables.
+#[derive(Drop)]
+struct Harbour {
+    book: Book<House>,
+    holders: [Dated<u16>; 4],
+    rows: [Dated<AllocationRow>; HALF_HOURS],
+    readings: [Reading; HALF_HOURS],
+    issued: [Slot; HALF_HOURS * PLACES],
 }
 
-fn register(
-    rt: &HostRuntime,
-    book: &mut Book<House>,
-    holders: &mut [Dated<u16>],
-    place: u8,
-    supplier: u16,
-) -> io::Result<()> {
-    print!(rt; "register place {place} day 0 supplier {supplier}: ")?;
-    answered(rt, book.register(holders, place, 0, supplier))
-}
+impl Harbour {
+    // The tables as they are lent at first. What lies behind the entries held counts for nothing.
+    fn open(terms: Terms) -> Harbour {
+        Harbour {
+            book: Book::open(terms, House),
+            holders: [Dated::blank(0); 4],
+            rows: [Dated::blank(SEVENTY); HALF_HOURS],
+            readings: [Reading::NONE; HALF_HOURS],
+            issued: [Slot::NONE; HALF_HOURS * PLACES],
+        }
+    }
 
-// For day 2.
-fn schedule(
-    rt: &HostRuntime,
-    book: &mut Book<House>,
-    holders: &[Dated<u16>],
-    rows: &mut [Dated<AllocationRow>],
-    sender: u16,
-    moment: u32,
-) -> io::Result<()> {
-    print!(rt; "schedule by {sender} day 2 minute {moment}: ")?;
-    match schedule_day(book, holders, rows, sender, 2, moment) {
-        Ok(notice) => println!(rt; "notice {}", Hex(&notice)),
-        Err(fault) => refused(rt, fault),
+    fn blank(&mut self, rt: &impl Print) -> io::Result<()> {
+        print!(rt; "blank: ")?;
+        answered(rt, self.book.blank(&mut self.readings, &mut self.issued))
+    }
+
+    fn register(&mut self, rt: &impl Print, place: u8, supplier: u16) -> io::Result<()> {
+        print!(rt; "register place {place} day 0 supplier {supplier}: ")?;
+        answered(
+            rt,
+            self.book.register(&mut self.holders, place, 0, supplier),
+        )
+    }
+
+    // Schedules the same row for all of day 2.
+    fn schedule(&mut self, rt: &impl Print, sender: u16, moment: u32) -> io::Result<()> {
+        print!(rt; "schedule by {sender} day 2 minute {moment}: ")?;
+        match self.schedule_day(sender, 2, moment) {
+            Ok(notice) => println!(rt; "notice {}", Hex(&notice)),
+            Err(fault) => println!(rt; "{fault}"),
+        }
+    }
+
+    // Schedules the same row for all of a day, and answers the notice that confirms it.
+    fn schedule_day(&mut self, sender: u16, day: u16, moment: u32) -> Result<[u8; 16], Fault>
+        ensures { IfOk result (λ bytes. bytes ≡ notice_of day sender moment) }
+    {
+        let receipt = self.book.schedule(
+            &self.holders,
+            &mut self.rows,
+            sender,
+            day,
+            moment,
+            &[SEVENTY; PERIODS as usize],
+        )?;
+        Ok(receipt.confirm())
+    }
+
+    // In period 13 of day 2.
+    fn reading(&mut self, rt: &impl Print, quality: u8, kwh: u32) -> io::Result<()> {
+        print!(rt; "reading day 2 period 13 quality {quality} kWh {kwh}: ")?;
+        answered(
+            rt,
+            self.book.reading(&mut self.readings, 2, 13, quality, kwh),
+        )
+    }
+
+    // Of period 13 of day 2.
+    fn volume(&self, rt: &impl Print, place: u8) -> io::Result<()> {
+        print!(rt; "volume day 2 period 13 place {place}: ")?;
+        match self.book.volume(&self.issued, 2, 13, place) {
+            Ok(Some((kwh, other))) => println!(rt; "{kwh} kWh, {other} virtual"),
+            Ok(None) => println!(rt; "none"),
+            Err(fault) => println!(rt; "{fault}"),
+        }
+    }
+
+    // From day 2 on.
+    fn end(&mut self, rt: &impl Print, sender: u16, moment: u32) -> io::Result<()> {
+        print!(rt; "end by {sender} day 2 minute {moment}: ")?;
+        answered(rt, self.book.end(&self.holders, sender, 2, moment))
     }
 }
 
-// In period 13 of day 2.
-fn reading(
-    rt: &HostRuntime,
-    book: &Book<House>,
-    readings: &mut [Reading],
-    quality: u8,
-    kwh: u32,
-) -> io::Result<()> {
-    print!(rt; "reading day 2 period 13 quality {quality} kWh {kwh}: ")?;
-    answered(rt, book.reading(readings, 2, 13, quality, kwh))
-}
-
-fn volume(rt: &HostRuntime, book: &Book<House>, issued: &[Slot], place: u8) -> io::Result<()> {
-    print!(rt; "volume day 2 period 13 place {place}: ")?;
-    match book.volume(issued, 2, 13, place) {
-        Ok(Some((kwh, other))) => println!(rt; "{kwh} kWh, {other} virtual"),
-        Ok(None) => println!(rt; "none"),
-        Err(fault) => refused(rt, fault),
-    }
-}
-
-fn end(
-    rt: &HostRuntime,
-    book: &mut Book<House>,
-    holders: &[Dated<u16>],
-    sender: u16,
-    moment: u32,
-) -> io::Result<()> {
-    print!(rt; "end by {sender} day 2 minute {moment}: ")?;
-    answered(rt, book.end(holders, sender, 2, moment))
-}
-
-fn run(rt: &HostRuntime, terms: Terms) -> io::Result<()> {
-    let mut book = Book::open(terms, House);
+fn run(rt: &impl Print, terms: Terms) -> io::Result<()> {
+    let mut harbour = Harbour::open(terms);
     println!(rt; "opened: 2 places, 3 days, 60 kWh")?;
-    let mut holders = [NO_HOLDER; 4];
-    let mut rows = [NO_ROW; 144];
-    let mut readings = [Reading::NONE; 144];
-    let mut issued = [Slot::NONE; 288];
-    blank(rt, &book, &mut readings, &mut issued)?;
-    register(rt, &mut book, &mut holders, 0, 101)?;
-    register(rt, &mut book, &mut holders, 1, 102)?;
-    schedule(rt, &mut book, &holders, &mut rows, 101, 4_260)?;
-    schedule(rt, &mut book, &holders, &mut rows, 101, 4_261)?;
-    schedule(rt, &mut book, &holders, &mut rows, 102, 4_260)?;
-    reading(rt, &book, &mut readings, 2, 30)?;
-    reading(rt, &book, &mut readings, 1, 31)?;
-    volume(rt, &book, &issued, 0)?;
-    end(rt, &mut book, &holders, 101, 4_260)?;
-    schedule(rt, &mut book, &holders, &mut rows, 101, 4_260)
+    harbour.blank(rt)?;
+    harbour.register(rt, 0, 101)?;
+    harbour.register(rt, 1, 102)?;
+    harbour.schedule(rt, 101, 4_260)?;
+    harbour.schedule(rt, 101, 4_261)?;
+    harbour.schedule(rt, 102, 4_260)?;
+    harbour.reading(rt, 2, 30)?;
+    harbour.reading(rt, 1, 31)?;
+    harbour.volume(rt, 0)?;
+    harbour.end(rt, 101, 4_260)?;
+    harbour.schedule(rt, 101, 4_260)
 }
 
 fn main(rt: HostRuntime) -> io::Result<()> {
     match Terms::new(2, 3, 60) {
         Ok(terms) => run(&rt, terms),
-        Err(fault) => refused(&rt, fault),
+        Err(fault) => println!(rt; "{fault}"),
     }
 }

@@ -8,11 +8,11 @@ ghost use Rattle.rules.specs.First.{first_block};
 ghost use Rattle.own_rule.specs.Halves.{halves_of};
 ghost use Rattle.own_rule.specs.Halved.{halves_laws};
 
-use domain::{MAX_KWH, PERIODS};
+use domain::{MAX_KWH, is_period};
 use rules::{FirstBlock, Row, Rule};
 
 // Two places have half of the energy each, and the second, the balance place, the odd kWh.
-#[derive(Clone, Copy)]
+#[derive(Clone, Copy, PartialEq, Eq, Debug)]
 pub struct Halves;
 
 impl Rule for Halves {
@@ -25,7 +25,7 @@ impl Rule for Halves {
     }
 
     fn share(&self, row: Row, period: u8, energy: u32, place: usize) -> i64 {
-        if !self.is_lawful(row) || period == 0 || period > PERIODS || energy > MAX_KWH {
+        if !self.is_lawful(row) || !is_period(period) || energy > MAX_KWH {
             return 0;
         }
         match place {
@@ -69,15 +69,15 @@ mod tests {
         let heap = rt.alloc();
         let answer = answer_line(heap, &Halves, &House, 7, b"13 9 1 60 1 7000 0")?;
         assert!(rt; answer.text.as_str() == "13 9: 4 5 differs 6 3\n");
-        assert!(rt; matches!(answer.outcome, Outcome::Differing));
+        assert_eq!(rt; answer.outcome, Outcome::Differing);
         let answer = answer_line(heap, &House, &Halves, 7, b"13 9 1 60 1 7000 5")?;
         assert!(rt; answer.text.as_str() == "13 9: unlawful differs 4 5\n");
         let answer = answer_line(heap, &Halves, &House, 7, b"13 8 1 60 1 5000 0")?;
         assert!(rt; answer.text.as_str() == "13 8: 4 4\n");
-        assert!(rt; matches!(answer.outcome, Outcome::Split));
+        assert_eq!(rt; answer.outcome, Outcome::Split);
         let answer = answer_line(heap, &Halves, &House, 7, b"13 8 1 60 0 5000 0")?;
         assert!(rt; answer.text.as_str() == "13 8: unlawful\n");
-        assert!(rt; matches!(answer.outcome, Outcome::Unlawful));
+        assert_eq!(rt; answer.outcome, Outcome::Unlawful);
         Ok(())
     }
 

@@ -1,4 +1,6 @@
-use Rattle.std.proofs.Common.{◌≡◌, ℕ, zero, suc, ◌-◌, min, Bool, true, false, cond, get_or, ℤ, pos, is_some, Some, None, Option, refl, ap, ◌∙◌, sub-one, arith}
+use Rattle.std.proofs.Common.{◌≡◌, ℕ, zero, suc, ◌-◌, min, Bool, true, false, cond, ◌&&◌, get_or, ℤ, pos, is_some, Some, None, Option, refl, ap, ◌∙◌, sub-one, arith}
+use Rattle.std.specs.Option.{unwrap_or}
+use Rattle.std.proofs.lemmas.Bool.{cond_both}
 use Rattle.rules.specs.Meaning.{Agreement, Meaning, in_range, answered}
 use Rattle.rules.specs.Pairs.{first_of}
 use Rattle.rules.specs.First.{opens, after_first, first_block}
@@ -28,14 +30,9 @@ module _ (m : Meaning) (t : Agreement) (p e i : ℕ) where
   answered_out out = grind arith
 
   -- in range the answer is the split's
-  pub answered_some : (z : ℤ) → in_range p e ≡ true → ◌≡◌ {A = Option ℤ} (Some z) (split m t p e i) → z ≡ answered m t p e i
-  answered_some z within is =
-      let both = some_if (m.lawful t) z _ is in
-      let lawful = both.0 in
-      rw (lawful, within) both.1
-
-  pub answered_none : in_range p e ≡ true → ◌≡◌ {A = Option ℤ} None (split m t p e i) → pos 0 ≡ answered m t p e i
-  answered_none within is = let no = none_if (m.lawful t) _ is in rw no refl
+  pub answered_split : (r : Option ℤ) → in_range p e ≡ true → r ≡ split m t p e i → unwrap_or r (pos 0) ≡ answered m t p e i
+  answered_split r within is =
+      rw (is, within) (cond_both (m.lawful t) (Some (get_or (m.shares t p e) i (pos 0))) None (λ (o : Option ℤ). unwrap_or o (pos 0) ≡ cond (m.lawful t && true) (get_or (m.shares t p e) i (pos 0)) (pos 0)) (λ h. rw h refl) (λ h. rw h refl))
 
   -- there is a split just of a lawful row
   pub lawful_some : (r : Option ℤ) → r ≡ split m t p e i → is_some r ≡ m.lawful t

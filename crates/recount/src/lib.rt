@@ -5,17 +5,17 @@ ghost use Rattle.std.specs.Prelude.{◌≡◌, ◌-◌, ◌*◌, ◌≤◌, not,
 ghost use Rattle.rules.specs.Meaning.{answered, in_range};
 ghost use Rattle.rules.specs.Agreed.{agreed};
 ghost use Rattle.rules.specs.Pairs.{is_pair, first_of, nearest};
-ghost use Rattle.rules.specs.Blocks.{modest, blocks};
+ghost use Rattle.rules.specs.Blocks.{modest, is_blocks, blocks};
 ghost use Rattle.rules.specs.House.{house};
 ghost use Rattle.recount.specs.Layers.{split, layers};
 ghost use Rattle.recount.specs.Entered.{entered, kind, Fronts};
 ghost use Rattle.rules.specs.Housed.{house_laws};
 
-use domain::{MAX_KWH, PERIODS};
+use domain::{MAX_KWH, is_period};
 use rules::{Row, Rule};
 
 // The second calculation, a rule that means what the house rule means.
-#[derive(Clone, Copy)]
+#[derive(Clone, Copy, PartialEq, Eq, Debug)]
 pub struct Recount;
 
 impl Rule for Recount {
@@ -24,11 +24,11 @@ impl Rule for Recount {
     ghost laws = { λ x. house_laws };
 
     fn is_lawful(&self, row: Row) -> bool {
-        Entry::of(row).is_lawful()
+        Entry::from(row).is_lawful()
     }
 
     fn share(&self, row: Row, period: u8, energy: u32, place: usize) -> i64 {
-        Entry::of(row).share(period, energy, place)
+        Entry::from(row).share(period, energy, place)
     }
 }
 
@@ -53,7 +53,7 @@ enum Kind {
 fn outside(period: u8, energy: u32) -> bool
     ensures { result ≡ not (in_range period energy) }
 {
-    period == 0 || period > PERIODS || energy > MAX_KWH
+    !is_period(period) || energy > MAX_KWH
 }
 
 // A first block, and the row of the places after it.
@@ -63,10 +63,10 @@ struct Front<'a> {
     below: Entry<'a>,
 }
 
-impl<'a> Entry<'a> {
-    fn of(row: Row<'a>) -> Entry<'a>
-        ensures { entered result ≡ agreed row.entry }
-    {
+impl<'a> From<Row<'a>> for Entry<'a> {
+    ghost from_gives = { λ row entry. entered entry ≡ agreed row };
+
+    fn from(row: Row<'a>) -> Self {
         Entry {
             method: row.method,
             capacity: row.capacity,
@@ -74,7 +74,9 @@ impl<'a> Entry<'a> {
             balance: row.balance,
         }
     }
+}
 
+impl<'a> Entry<'a> {
     fn is_lawful(self) -> bool
         ensures { result ≡ house.lawful (entered self.entry) }
     {
@@ -87,26 +89,24 @@ impl<'a> Entry<'a> {
         if outside(period, energy) {
             return 0;
         }
-        match self.by_method(period, energy, place) {
-            Some(share) => share,
-            None => 0,
-        }
+        self.by_method(period, energy, place).unwrap_or(0)
     }
 
     // Each method is so many first blocks and a kind of split.
     fn by_method(self, period: u8, energy: u32, place: usize) -> Option<i64>
         ensures { result ≡ split house (entered self.entry) period energy place }
     {
-        match self.method {
-            1 => self.settle(Kind::Percentage, period, energy, place),
-            2 => self.settle(Kind::Capped, period, energy, place),
-            3 => self.settle(Kind::Fixed, period, energy, place),
-            4 => self.settle(Kind::Multiple, period, energy, place),
-            5 => self.peel(1, Kind::Percentage, period, energy, place),
-            6 => self.peel(1, Kind::Multiple, period, energy, place),
-            7 => self.peel(2, Kind::Percentage, period, energy, place),
-            _ => None,
-        }
+        let (blocks, inner) = match self.method {
+            1 => (0, Kind::Percentage),
+            2 => (0, Kind::Capped),
+            3 => (0, Kind::Fixed),
+            4 => (0, Kind::Multiple),
+            5 => (1, Kind::Percentage),
+            6 => (1, Kind::Multiple),
+            7 => (2, Kind::Percentage),
+            _ => return None,
+        };
+        self.peel(blocks, inner, period, energy, place)
     }
 
     // Takes so many first blocks off the front, and settles what is left.
@@ -132,16 +132,17 @@ impl<'a> Entry<'a> {
     fn front(self) -> Option<Front<'a>>
         ensures { Fronts (entered self.entry) result }
     {
-        if self.nominations.len() < 3 || self.balance == 0 || self.nominations[0] > MAX_KWH {
+        let (first, rest) = self.nominations.split_first()?;
+        if rest.len() < 2 || self.balance == 0 || *first > MAX_KWH {
             return None;
         }
         let below = Entry {
-            nominations: after_first(self.nominations),
+            nominations: rest,
             balance: self.balance - 1,
             ..self
         };
         Some(Front {
-            block: self.nominations[0],
+            block: *first,
             below,
         })
     }
@@ -182,28 +183,23 @@ impl<'a> Entry<'a> {
     fn run_down(self, least: usize, most: usize, energy: u32, place: usize) -> Option<i64>
         ensures { result ≡ split (blocks least most) (entered self.entry) 0 energy place }
     {
-        let places = self.nominations.len();
-        let balance = self.balance as usize;
-        if places < least || places > most || balance >= places || self.nominations[balance] != 0 {
+        let left = self.left(least, most)?;
+        if place == usize::from(self.balance) {
+            return Some(i64::from(energy) + i64::from(left) - i64::from(self.capacity));
+        }
+        let nomination = self.nominations.get(place).copied();
+        Some(i64::from(nomination.unwrap_or(0)))
+    }
+
+    // What the nominations of fixed blocks with from `least` to `most` places leave of the capacity.
+    fn left(self, least: usize, most: usize) -> Option<u32>
+        ensures { result ≡ (if is_blocks least most (entered self.entry) then Some (self.entry.capacity - sum (entered self.entry).nominations) else None) }
+    {
+        let balance = self.nominations.get(usize::from(self.balance));
+        if !(least..=most).contains(&self.nominations.len()) || balance != Some(&0) {
             return None;
         }
-        let left = capacity_left(self.capacity, self.nominations)?;
-        if place == balance {
-            return Some(energy as i64 + left as i64 - self.capacity as i64);
-        }
-        match self.nominations.get(place) {
-            Some(nomination) => Some(i64::from(*nomination)),
-            None => Some(0),
-        }
-    }
-}
-
-fn after_first(nominations: &[u32]) -> &[u32]
-    ensures { result.now ≡ drop 1 nominations.now }
-{
-    match nominations {
-        [_, rest @ ..] => rest,
-        [] => nominations,
+        capacity_left(self.capacity, self.nominations)
     }
 }
 
@@ -243,9 +239,10 @@ fn nearest_share(hundredths: u32, energy: u32, period: u8) -> u32
     ensures bound { result ≤ energy }
 {
     let half = if period % 2 == 1 { 10_000 } else { 9_999 };
-    let target = 2 * (hundredths as u64 * energy as u64) + half;
+    let target = 2 * (u64::from(hundredths) * u64::from(energy)) + half;
     let mut low = 0;
-    let mut high = energy as u64 + 1;
+    let mut high = u64::from(energy) + 1;
+    // nothing is counted here, and the range is no slice, which the library would search
     while high - low > 1 {
         let middle = low + (high - low) / 2;
         if 20_000 * middle <= target {

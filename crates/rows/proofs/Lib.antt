@@ -1,1 +1,2 @@
 pub mod Tamed
+pub mod Zeros

@@ -1,10 +1,11 @@
 // Rows of a schedule, as a rule judges and splits them in a book of given terms.
 #![tactic(auto)]
 
-ghost use Rattle.std.specs.Prelude.{◌≡◌};
+ghost use Rattle.std.specs.Prelude.{◌≡◌, ◌==◌};
+ghost use Rattle.std.specs.List.{list_all};
 ghost use Rattle.std.specs.Option.{option_map};
 ghost use Rattle.rules.specs.Agreed.{agreed};
-ghost use Rattle.rows.specs.Rows.{agreement, allowed, share_of, zeros, Tame};
+ghost use Rattle.rows.specs.Rows.{agreement, allowed, share_of, Tame};
 
 use domain::{AllocationRow, MAX_KWH, Terms};
 use rules::{Row, Rule};
@@ -49,12 +50,7 @@ fn row_of(terms: Terms, row: &AllocationRow) -> Row<'_>
 }
 
 fn are_zero(nominations: &[u32]) -> bool
-    ensures { result ≡ zeros nominations.now }
+    ensures { result ≡ list_all (λ n. n == 0) nominations.now }
 {
-    for nomination in nominations {
-        if *nomination != 0 {
-            return false;
-        }
-    }
-    true
+    nominations.iter().all(|nomination| *nomination == 0)
 }

@@ -29,6 +29,9 @@ capped_laws = pairs_laws most_kwh (λ t p e. taken t e) (λ t p e lawful. omega 
 nothing_laws : Laws nothing
 nothing_laws t p e lawful range = absurd (false≢true lawful)
 
+pub method_laws : (n : ℕ) → Laws (method n)
+method_laws n =
+    by_method Laws percentage_laws capped_laws (blocks_laws 2 2) (blocks_laws 3 8) first_laws nothing_laws n
+
 pub house_laws : Laws house
-house_laws t p e lawful range =
-    by_method Laws percentage_laws capped_laws (blocks_laws 2 2) (blocks_laws 3 8) first_laws nothing_laws t.method t p e lawful range
+house_laws t p e lawful range = method_laws t.method t p e lawful range

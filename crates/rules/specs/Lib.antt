@@ -12,3 +12,4 @@ pub mod Shares
 pub mod Blocked
 pub mod Opened
 pub mod Housed
+pub mod Methods

@@ -1,11 +1,11 @@
 // Rules that split the energy of a half hour between the places of a shared meter.
 #![tactic(auto)]
 
-ghost use Rattle.std.specs.Prelude.{◌≡◌, ℕ, ◌-◌, ◌*◌, ◌^◌, ◌<◌, ◌≤◌, true, false, [], ◌∷◌, length, pos, if◌then◌else◌, Some, None, sum, MatchOption, slice_index_or};
+ghost use Rattle.std.specs.Prelude.{◌≡◌, ◌&&◌, nat_lt, ℕ, ◌-◌, ◌*◌, ◌^◌, ◌<◌, ◌≤◌, true, false, [], ◌∷◌, length, pos, if◌then◌else◌, Some, None, sum, MatchOption, slice_index_or};
 ghost use Rattle.rules.specs.Meaning.{Meaning, Laws, answered, in_range};
 ghost use Rattle.rules.specs.Agreed.{agreed};
 ghost use Rattle.rules.specs.Pairs.{is_pair, pairs, percentage, capped_block, nearest, first_of};
-ghost use Rattle.rules.specs.Blocks.{modest, is_blocks, block_shares, fixed_block, multiple_block};
+ghost use Rattle.rules.specs.Blocks.{modest, is_blocks, block_shares, blocks};
 ghost use Rattle.rules.specs.First.{opens, after_first, first_block};
 ghost use Rattle.rules.specs.House.{house};
 ghost use Rattle.rules.specs.Rounding.{RoundedTo};
@@ -15,13 +15,17 @@ ghost use Rattle.rules.specs.Paired.{percentage_laws};
 ghost use Rattle.std.proofs.Common.{rules};
 ghost use Rattle.rules.specs.Blocked.{blocks_laws};
 ghost use Rattle.rules.specs.Opened.{first_laws};
-ghost use Rattle.rules.specs.Housed.{house_laws};
 
-use domain::{MAX_KWH, PERIODS};
+use domain::{MAX_KWH, is_period};
+
+mod house;
+
+pub use house::House;
 
 // What the parties agreed for one half hour: one nomination for each place.
-#[derive(Clone, Copy)]
+#[derive(Clone, Copy, PartialEq, Eq, Debug)]
 pub struct Row<'a> {
+    // a number, as rows are stored with it: the house rule alone reads it, and it may be any under another rule
     pub method: u8,
     // the Relevant Capacity, in kWh for one period
     pub capacity: u32,
@@ -47,11 +51,11 @@ pub trait Rule {
 fn in_range(period: u8, energy: u32) -> bool
     ensures { result ≡ in_range period energy }
 {
-    1 <= period && period <= PERIODS && energy <= MAX_KWH
+    is_period(period) && energy <= MAX_KWH
 }
 
 // Method 1: the first of two places has a percentage of the energy, in hundredths of a percent, and the second the rest.
-#[derive(Clone, Copy)]
+#[derive(Clone, Copy, PartialEq, Eq, Debug)]
 pub struct Percentage;
 
 impl Rule for Percentage {
@@ -84,7 +88,7 @@ fn rounded(hundredths: u32, energy: u32, period: u8) -> u32
     ensures is { result ≡ nearest period (hundredths * energy) }
     ensures within { result ≤ energy }
 {
-    let exact = hundredths as u64 * energy as u64;
+    let exact = u64::from(hundredths) * u64::from(energy);
     let kwh = (exact / 10_000) as u32;
     let rest = exact % 10_000;
     let odd = period % 2 == 1;
@@ -96,7 +100,7 @@ fn rounded(hundredths: u32, energy: u32, period: u8) -> u32
 }
 
 // Method 2: the first of two places has its nomination, as far as the energy goes, and the second the rest.
-#[derive(Clone, Copy)]
+#[derive(Clone, Copy, PartialEq, Eq, Debug)]
 pub struct CappedBlock;
 
 impl Rule for CappedBlock {
@@ -122,10 +126,7 @@ impl Row<'_> {
     fn is_pair(self, most: u32) -> bool
         ensures { result ≡ is_pair most (agreed self.entry) }
     {
-        match self.nominations {
-            [first, 0] => self.balance == 1 && *first <= most,
-            _ => false,
-        }
+        matches!(self.nominations, [first, 0] if self.balance == 1 && *first <= most)
     }
 }
 
@@ -141,42 +142,27 @@ fn pair_share(part: u32, energy: u32, place: usize) -> i64
     }
 }
 
-// Method 3: one of two places has its nomination, and the balance place the rest.
-#[derive(Clone, Copy)]
-pub struct FixedBlock;
+// From LEAST to MOST places: each has its nomination, and the balance place the rest.
+#[derive(Clone, Copy, PartialEq, Eq, Debug)]
+pub struct Blocks<const LEAST: usize, const MOST: usize>;
 
-impl Rule for FixedBlock {
-    ghost meaning = { λ _. fixed_block };
+// Method 3: two places.
+pub type FixedBlock = Blocks<2, 2>;
 
-    ghost laws = { λ x. blocks_laws 2 2 };
+// Method 4: three to eight places.
+pub type MultipleBlock = Blocks<3, 8>;
+
+impl<const LEAST: usize, const MOST: usize> Rule for Blocks<LEAST, MOST> {
+    ghost meaning = { λ _. blocks LEAST MOST };
+
+    ghost laws = { λ x. blocks_laws LEAST MOST };
 
     fn is_lawful(&self, row: Row) -> bool {
-        row.block_total(2, 2).is_some()
+        row.block_total(LEAST, MOST).is_some()
     }
 
     fn share(&self, row: Row, period: u8, energy: u32, place: usize) -> i64 {
-        match row.block_total(2, 2) {
-            Some(total) if in_range(period, energy) => row.block_share(total, energy, place),
-            _ => 0,
-        }
-    }
-}
-
-// Method 4: each of three to eight places has its nomination, and the balance place the rest.
-#[derive(Clone, Copy)]
-pub struct MultipleBlock;
-
-impl Rule for MultipleBlock {
-    ghost meaning = { λ _. multiple_block };
-
-    ghost laws = { λ x. blocks_laws 3 8 };
-
-    fn is_lawful(&self, row: Row) -> bool {
-        row.block_total(3, 8).is_some()
-    }
-
-    fn share(&self, row: Row, period: u8, energy: u32, place: usize) -> i64 {
-        match row.block_total(3, 8) {
+        match row.block_total(LEAST, MOST) {
             Some(total) if in_range(period, energy) => row.block_share(total, energy, place),
             _ => 0,
         }
@@ -185,58 +171,47 @@ impl Rule for MultipleBlock {
 
 impl Row<'_> {
     // The sum of the nominations, or none where the row is no row of fixed blocks with from `least` to `most` places.
-    fn block_total(self, least: usize, most: usize) -> Option<u64>
-        requires { most ≤ 8 }
+    fn block_total(self, least: usize, most: usize) -> Option<u32>
         ensures { result ≡ (if is_blocks least most (agreed self.entry) then Some (sum (agreed self.entry).nominations) else None) }
     {
-        let places = self.nominations.len();
-        let balance = usize::from(self.balance);
-        if places < least || places > most || balance >= places {
+        let balance = self.nominations.get(usize::from(self.balance));
+        if !(least..=most).contains(&self.nominations.len()) || balance != Some(&0) {
             return None;
         }
-        if self.nominations[balance] != 0 {
-            return None;
-        }
-        match modest_sum(self.nominations) {
-            Some(total) if total <= u64::from(self.capacity) => Some(total),
-            _ => None,
-        }
+        modest_sum(self.nominations).filter(|total| *total <= self.capacity)
     }
 
     // The share of a place in a row of fixed blocks, whose nominations add up to `total`.
-    fn block_share(self, total: u64, energy: u32, place: usize) -> i64
+    #[tactic(auto, using(crate::specs::Blocked::block_there))]
+    fn block_share(self, total: u32, energy: u32, place: usize) -> i64
         requires within { self.balance < length (agreed self).nominations }
         requires sums { total ≡ sum (agreed self).nominations }
-        requires small { total < 2 ^ 32 }
         ensures { result ≡ slice_index_or (block_shares (agreed self.entry) energy) place (pos 0) }
     {
         if place == usize::from(self.balance) {
-            return i64::from(energy) - total as i64;
+            return i64::from(energy) - i64::from(total);
         }
-        match self.nominations.get(place) {
-            Some(nomination) => i64::from(*nomination),
-            None => 0,
-        }
+        let nomination = self.nominations.get(place).copied();
+        i64::from(nomination.unwrap_or(0))
     }
 }
 
-// The sum of at most eight nominations, or none where one of them exceeds the limit.
-fn modest_sum(nominations: &[u32]) -> Option<u64>
-    requires { length nominations.now ≤ 8 }
-    ensures { result ≡ (if modest nominations.now then Some (sum nominations.now) else None) }
+// The sum of the nominations, or none where one of them exceeds the limit or they add up to more than any capacity.
+fn modest_sum(nominations: &[u32]) -> Option<u32>
+    ensures { result ≡ (if modest nominations.now && nat_lt (sum nominations.now) (2 ^ 32) then Some (sum nominations.now) else None) }
 {
-    let mut total = 0;
+    let mut total: u32 = 0;
     for nomination in nominations {
         if *nomination > MAX_KWH {
             return None;
         }
-        total += u64::from(*nomination);
+        total = total.checked_add(*nomination)?;
     }
     Some(total)
 }
 
 // The first place has its nomination, as far as the energy goes, and the rule below splits what is left.
-#[derive(Clone, Copy)]
+#[derive(Clone, Copy, PartialEq, Eq, Debug)]
 pub struct FirstBlock<R> {
     pub below: R,
 }
@@ -247,10 +222,8 @@ impl<R: Rule> Rule for FirstBlock<R> {
     ghost laws = { λ x. first_laws (R.Rule.meaning x.below) (R.Rule.laws x.below) };
 
     fn is_lawful(&self, row: Row) -> bool {
-        match row.after_first() {
-            Some((_, rest)) => self.below.is_lawful(rest),
-            None => false,
-        }
+        row.after_first()
+            .is_some_and(|(_, rest)| self.below.is_lawful(rest))
     }
 
     fn share(&self, row: Row, period: u8, energy: u32, place: usize) -> i64 {
@@ -277,69 +250,18 @@ impl<'a> Row<'a> {
     fn after_first(self) -> Option<(u32, Row<'a>)>
         ensures { MatchOption result (opens (agreed self.entry) ≡ false) (λ x. (opens (agreed self.entry) ≡ true) × (x.0 ≡ first_of (agreed self.entry)) × (agreed x.1 ≡ after_first (agreed self.entry))) }
     {
-        match self.nominations {
-            [first, rest @ ..] => {
-                if rest.len() < 2 || self.balance == 0 || *first > MAX_KWH {
-                    return None;
-                }
-                let below = Row {
-                    nominations: rest,
-                    balance: self.balance - 1,
-                    ..self
-                };
-                Some((*first, below))
-            }
-            [] => None,
+        let (first, rest) = self.nominations.split_first()?;
+        if rest.len() < 2 || self.balance == 0 || *first > MAX_KWH {
+            return None;
         }
+        let below = Row {
+            nominations: rest,
+            balance: self.balance - 1,
+            ..self
+        };
+        Some((*first, below))
     }
 }
-
-// The rule of the house: each row by the method that it names.
-#[derive(Clone, Copy)]
-pub struct House;
-
-impl Rule for House {
-    ghost meaning = { λ _. house };
-
-    ghost laws = { λ x. house_laws };
-
-    fn is_lawful(&self, row: Row) -> bool {
-        match row.method {
-            1 => Percentage.is_lawful(row),
-            2 => CappedBlock.is_lawful(row),
-            3 => FixedBlock.is_lawful(row),
-            4 => MultipleBlock.is_lawful(row),
-            5 => PERCENTAGE_AFTER_ONE.is_lawful(row),
-            6 => MULTIPLE_AFTER_ONE.is_lawful(row),
-            7 => PERCENTAGE_AFTER_TWO.is_lawful(row),
-            _ => false,
-        }
-    }
-
-    fn share(&self, row: Row, period: u8, energy: u32, place: usize) -> i64 {
-        // Of all rules only this one reads the method.
-        match row.method {
-            1 => Percentage.share(row, period, energy, place),
-            2 => CappedBlock.share(row, period, energy, place),
-            3 => FixedBlock.share(row, period, energy, place),
-            4 => MultipleBlock.share(row, period, energy, place),
-            5 => PERCENTAGE_AFTER_ONE.share(row, period, energy, place),
-            6 => MULTIPLE_AFTER_ONE.share(row, period, energy, place),
-            7 => PERCENTAGE_AFTER_TWO.share(row, period, energy, place),
-            _ => 0,
-        }
-    }
-}
-
-const PERCENTAGE_AFTER_ONE: FirstBlock<Percentage> = FirstBlock { below: Percentage };
-
-const MULTIPLE_AFTER_ONE: FirstBlock<MultipleBlock> = FirstBlock {
-    below: MultipleBlock,
-};
-
-const PERCENTAGE_AFTER_TWO: FirstBlock<FirstBlock<Percentage>> = FirstBlock {
-    below: PERCENTAGE_AFTER_ONE,
-};
 
 // All seven methods ask that the balance place is one of the row's and nominates nothing, and that no nomination exceeds the limit.
 pub fn general_conditions()

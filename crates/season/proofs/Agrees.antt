@@ -1,9 +1,9 @@
 -- The book and its tables agree with the plain book, and each call keeps it so.
-use Rattle.std.proofs.Common.{◌≡◌, ℕ, ◌-◌, ◌<◌, ◌≤◌, Bool, true, false, cond, ◌&&◌, eqb, ltb, leb, List, [], length, get_or, take, set, is_ok, Some, None, Ok, Err, Option, Result, sym, refl, ap, ◌∙◌, subst, ⊎_elim, arith, length-append, length-drop, length-set, take_all, Bor}
+use Rattle.std.proofs.Common.{◌≡◌, ℕ, ◌-◌, ◌<◌, ◌≤◌, Bool, true, false, cond, ◌&&◌, eqb, leb, List, [], length, get_or, take, set, is_ok, Some, None, Ok, Err, Option, Result, sym, refl, ap, ◌∙◌, subst, ⊎_elim, arith, length-append, length-drop, length-set, take_all, Bor}
 use Rattle.std.specs.List.{slice_get}
 use Rattle.std.proofs.lemmas.List.{get_or-set_same, get_or-set_other}
 use Rattle.std.proofs.lemmas.Option.{slice_get-get_or}
-use Rattle.std.proofs.lemmas.Bool.{cases_eq, cond-true, cond-false, eq-eqb, ne_eqb, eqb-true, ltb-false, cases_Bool, cond_both, and_parts, and_from, both_ways}
+use Rattle.std.proofs.lemmas.Bool.{cases_eq, eq-eqb, ne_eqb, eqb-true, cond_both, and_parts, and_from, both_ways}
 use Rattle.std.proofs.lemmas.Bool.Decides.{nat_tests}
 use Rattle.domain.specs.Limits.{periods}
 use Rattle.domain.specs.Slots.{reading_slot, reading_slots, issued_slots}
@@ -13,7 +13,7 @@ use Rattle.domain.specs.declared.Reading.{Reading}
 use Rattle.domain.specs.declared.Table.{Table}
 use Rattle.domain.specs.declared.Table.TheVariants.{Holders, Rows}
 use Rattle.domain.specs.declared.Fault.{Fault}
-use Rattle.domain.specs.declared.Fault.TheVariants.{Spoiled, HistoryFull, ArgumentOutsideLimits}
+use Rattle.domain.specs.declared.Fault.TheVariants.{ArgumentOutsideLimits}
 use Rattle.domain.specs.declared.terms.Terms.{Terms}
 use Rattle.rules.specs.Meaning.{Meaning}
 use Rattle.history.specs.declared.Dated.{Dated}
@@ -74,24 +74,16 @@ slot_apart day period d p isp isp' differs e =
 -- a check that was passed held, and what came next was accepted
 pub unless_ok : {A : Type 0} (holds : Bool) (fault : Fault) (rest : Result A Fault) (x : A) → unless holds fault rest ≡ Ok x → (holds ≡ true) × (rest ≡ Ok x)
 unless_ok true fault rest x e = (refl, e)
-unless_ok false fault rest x e = let z : ◌≡◌ {A = ℕ} 0 1 = cc in absurd (omega arith)
+unless_ok false fault rest x e = absurd cc
 
 pub then_ok : {A B : Type 0} (first : Result A Fault) (rest : A → Result B Fault) (x : B) → and_then first rest ≡ Ok x → (y : A) × (first ≡ Ok y) × (rest y ≡ Ok x)
 then_ok (Ok y) rest x e = (y, refl, e)
-then_ok (Err f) rest x e = let z : ◌≡◌ {A = ℕ} 0 1 = cc in absurd (omega arith)
+then_ok (Err f) rest x e = absurd cc
 
 module _ {T : Type 0} (entries h : List (Dated T)) (table : Table) (count n : ℕ) where
   -- there was room
   pub room_ok : room_for entries table count h ≡ Ok n → (n ≡ length h) × (length h ≤ length entries)
-  room_ok e =
-      ⊎_elim
-      (λ (over : ltb (length entries) count ≡ true). let f = sym (cond-true (ltb (length entries) count) (Err (Spoiled table)) (cond (ltb (length entries) (length h)) (Err (HistoryFull (length h))) (Ok (length h))) over) ∙ e in let z : ◌≡◌ {A = ℕ} 0 1 = cc in absurd (omega arith))
-      (λ (held : ltb (length entries) count ≡ false).
-      ⊎_elim
-      (λ (over : ltb (length entries) (length h) ≡ true). let f = sym (cond-true (ltb (length entries) (length h)) (Err (HistoryFull (length h))) (Ok (length h)) over) ∙ (sym (cond-false (ltb (length entries) count) (Err (Spoiled table)) (cond (ltb (length entries) (length h)) (Err (HistoryFull (length h))) (Ok (length h))) held) ∙ e) in let z : ◌≡◌ {A = ℕ} 0 1 = cc in absurd (omega arith))
-      (λ (fits : ltb (length entries) (length h) ≡ false). let f : ◌≡◌ {A = Result ℕ Fault} (Ok (length h)) (Ok n) = sym (cond-false (ltb (length entries) (length h)) (Err (HistoryFull (length h))) (Ok (length h)) fits) ∙ (sym (cond-false (ltb (length entries) count) (Err (Spoiled table)) (cond (ltb (length entries) (length h)) (Err (HistoryFull (length h))) (Ok (length h))) held) ∙ e) in (cc, ltb-false (length entries) (length h) fits))
-      (cases_Bool (ltb (length entries) (length h))))
-      (cases_Bool (ltb (length entries) count))
+  room_ok e = grind (arith, nat_tests)
 
   pub length-holding : length h ≤ length entries → length (holding h entries) ≡ length entries
   length-holding fits = simp (length-append, length-drop) (omega arith)

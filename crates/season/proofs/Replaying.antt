@@ -20,11 +20,11 @@ use Rattle.history.proofs.Keyed.{keyed_nil}
 use Rattle.book.specs.Readings.{blank_answer}
 use Rattle.season.specs.declared.Call.{Call}
 use Rattle.season.specs.declared.Call.TheVariants as call
-use Rattle.season.specs.declared.Outcome.{Outcome}
+use Rattle.season.specs.declared.Accepted.{Accepted}
 use Rattle.season.specs.Plain.{nothing_yet, plain_run}
 use Rattle.season.specs.Law.{Adds}
 use Rattle.season.specs.Steps.{State, registered, scheduled, read, ended, issued, accepts, step, run, told}
-use Rattle.season.specs.Outcomes.{done_by, scheduled_by, issued_by, accepted, heard, start_of, outcome, outcomes}
+use Rattle.season.specs.Outcomes.{done_by, scheduled_by, issued_by, heard, start_of, outcome, outcomes}
 use Rattle.season.specs.Replays.{Replayed}
 use Rattle.season.proofs.Agrees.{Agrees, unless_ok}
 use Rattle.season.proofs.Turns.{agrees_run}
@@ -51,35 +51,35 @@ agrees_start t holders rows readings slots journal e =
       issued_size = length-replicate (length slots) no_volume ∙ eqb-true (length slots) (issued_slots t.places t.days) c.0;
       registered = λ q d. keyed_nil q d;
       scheduled = λ p d within. keyed_nil p d;
-      full = λ d xs said. let z : ◌≡◌ {A = ℕ} 0 1 = cc in absurd (omega arith);
+      full = λ d xs said. absurd cc;
       read = λ d p isd isp. ap (λ (r : Reading). r.quality) (blank_at (length readings) (reading_slot d p) no_reading);
       ended = refl;
       slots = λ d p q isd isp within. blank_at (length slots) (issued_slot t.places d p q) no_volume;
       lines = refl;
     }
 
-done_ok : {A : Type 0} (r : Result A Fault) → accepted (done_by r) ≡ is_ok r
+done_ok : {A : Type 0} (r : Result A Fault) → is_ok (done_by r) ≡ is_ok r
 done_ok (Ok x) = refl
 done_ok (Err f) = refl
 
-scheduled_ok : (r : Result ℕ Fault) (notice : List ℕ) → accepted (scheduled_by r notice) ≡ is_ok r
+scheduled_ok : (r : Result ℕ Fault) (notice : List ℕ) → is_ok (scheduled_by r notice) ≡ is_ok r
 scheduled_ok (Ok n) notice = refl
 scheduled_ok (Err f) notice = refl
 
-issued_ok : (r : Result ℕ Fault) → accepted (issued_by r) ≡ is_ok r
+issued_ok : (r : Result ℕ Fault) → is_ok (issued_by r) ≡ is_ok r
 issued_ok (Ok n) = refl
 issued_ok (Err f) = refl
 
 module _ (t : Terms) (m : Meaning) where
   -- the outcome says whether the call was accepted
-  outcome_says : (st : State) (c : Call) → accepted (outcome t m st c) ≡ accepts t m st c
+  outcome_says : (st : State) (c : Call) → is_ok (outcome t m st c) ≡ accepts t m st c
   outcome_says st (call.Register place day supplier) = done_ok (registered t m st place day supplier)
   outcome_says st (call.Schedule sender day moment rows) = scheduled_ok (scheduled t m st sender day moment rows.now) _
   outcome_says st (call.Reading day period quality kwh) = done_ok (read t m st day period quality kwh)
   outcome_says st (call.End sender day moment) = done_ok (ended t m st sender day moment)
   outcome_says st (call.Issue day run) = issued_ok (issued t m st day run)
 
-  heard_told : (st : State) (cs : List Call) (rest : List Outcome) → heard cs (outcomes t m st cs ++ rest) ≡ told t m st cs
+  heard_told : (st : State) (cs : List Call) (rest : List (Result Accepted Fault)) → heard cs (outcomes t m st cs ++ rest) ≡ told t m st cs
   unfolding heard outcomes told
   heard_told st [] rest = refl
   heard_told st (c ∷ cs) rest =
@@ -89,7 +89,7 @@ module _ (t : Terms) (m : Meaning) where
   outcomes_push : (s : State) (xs : List Call) (c : Call) → outcomes t m s (xs ++ (c ∷ [])) ≡ outcomes t m s xs ++ (outcome t m (run t m s xs) c ∷ [])
   unfolding outcomes
   outcomes_push s [] c = refl
-  outcomes_push s (x ∷ xs) c = ap (λ (os : List Outcome). outcome t m s x ∷ os) (outcomes_push (step t m s x) xs c)
+  outcomes_push s (x ∷ xs) c = ap (λ (os : List (Result Accepted Fault)). outcome t m s x ∷ os) (outcomes_push (step t m s x) xs c)
 
   length-outcomes : (s : State) (xs : List Call) → length (outcomes t m s xs) ≡ length xs
   unfolding outcomes
@@ -97,7 +97,7 @@ module _ (t : Terms) (m : Meaning) where
   length-outcomes s (x ∷ xs) = ap suc (length-outcomes (step t m s x) xs)
 
   -- a replay keeps the law
-  pub replayed : Laws m → (st : State) (cs : List Call) (was came : List Outcome) (end : State) → Agrees t st nothing_yet → end ≡ run t m st cs → came ≡ outcomes t m st cs ++ drop (length cs) was → Replayed t m st cs was end came
+  pub replayed : Laws m → (st : State) (cs : List Call) (was came : List (Result Accepted Fault)) (end : State) → Agrees t st nothing_yet → end ≡ run t m st cs → came ≡ outcomes t m st cs ++ drop (length cs) was → Replayed t m st cs was end came
   replayed laws st cs was came end h e o =
       let run-so = agrees_run t m st nothing_yet h cs in
       let said : heard cs came ≡ told t m st cs = ap (heard cs) o ∙ heard_told st cs (drop (length cs) was) in
@@ -115,43 +115,25 @@ module _ (t : Terms) (m : Meaning) where
 -- a turn of the loop
 module _ {R : Type 0} (meaning : R → Meaning) (t : Terms) (rule : R) (st : State) (cs : List Call) where
   pub turn_state : (i : ℕ) (d : Call) (tl : Terms) (rl : R) (was is : State) → i < length cs → tl ≡ t → rl ≡ rule → was ≡ run t (meaning rule) st (take i cs) → is ≡ step tl (meaning rl) was (get_or cs i d) → is ≡ run t (meaning rule) st (take (i + 1) cs)
-  turn_state i d tl rl was is h f e w x =
-      x
-      ∙ ap (λ (r : R). step tl (meaning r) was (get_or cs i d)) e
-      ∙ ap (λ (k : Terms). step k (meaning rule) was (get_or cs i d)) f
-      ∙ ap (λ (s : State). step t (meaning rule) s (get_or cs i d)) w
-      ∙ sym (fold_more (step t (meaning rule)) st cs i d h)
+  turn_state i d tl rl was is h f e w x = cc (fold_more (step t (meaning rule)) st cs i d h)
 
-  pub turn_outcomes : (i : ℕ) (d : Call) (tl : Terms) (rl : R) (was : State) (y : Outcome) (old os : List Outcome) → i < length cs → i < length old → tl ≡ t → rl ≡ rule → was ≡ run t (meaning rule) st (take i cs) → y ≡ outcome tl (meaning rl) was (get_or cs i d) → os ≡ outcomes t (meaning rule) st (take i cs) ++ drop i old → set os i y ≡ outcomes t (meaning rule) st (take (i + 1) cs) ++ drop (i + 1) old
+  pub turn_outcomes : (i : ℕ) (d : Call) (tl : Terms) (rl : R) (was : State) (y : Result Accepted Fault) (old os : List (Result Accepted Fault)) → i < length cs → i < length old → tl ≡ t → rl ≡ rule → was ≡ run t (meaning rule) st (take i cs) → y ≡ outcome tl (meaning rl) was (get_or cs i d) → os ≡ outcomes t (meaning rule) st (take i cs) ++ drop i old → set os i y ≡ outcomes t (meaning rule) st (take (i + 1) cs) ++ drop (i + 1) old
   turn_outcomes i d tl rl was y old os h k f e w z o =
       let m = meaning rule in
       let front = outcomes t m st (take i cs) in
       let full : length front ≡ i = length-outcomes t m st (take i cs) ∙ length-take-le i cs (omega arith) in
-      let made : y ≡ outcome t m (run t m st (take i cs)) (get_or cs i d) = z ∙ ap (λ (r : R). outcome tl (meaning r) was (get_or cs i d)) e ∙ ap (λ (x : Terms). outcome x m was (get_or cs i d)) f ∙ ap (λ (x : State). outcome t m x (get_or cs i d)) w in
-      ap (λ (x : List Outcome). set x i y) (o ∙ ap (λ (x : List Outcome). front ++ x) (drop_more old i y k))
-      ∙ set_at front (get_or old i y) (drop (i + 1) old) y i full
-      ∙ ap (λ (x : Outcome). front ++ (x ∷ drop (i + 1) old)) made
-      ∙ sym (append_assoc front (outcome t m (run t m st (take i cs)) (get_or cs i d) ∷ []) (drop (i + 1) old))
-      ∙ ap (λ (x : List Outcome). x ++ drop (i + 1) old) (sym (ap (outcomes t m st) (take_more cs i d h) ∙ outcomes_push t m st (take i cs) (get_or cs i d)))
+      let call = get_or cs i d in
+      let next : outcomes t m st (take (i + 1) cs) ≡ front ++ (outcome t m (run t m st (take i cs)) call ∷ []) = ap (outcomes t m st) (take_more cs i d h) ∙ outcomes_push t m st (take i cs) call in
+      let after = set_at front (get_or old i y) (drop (i + 1) old) y i full in
+      cc (next, after, drop_more old i y k, append_assoc front (y ∷ []) (drop (i + 1) old))
 
-  -- the end of the loop, with terms, rule and start as they were given
-  module _ (tl : Terms) (rl : R) (from : State) (i n : ℕ) (f : tl ≡ t) (e : rl ≡ rule) (s : from ≡ st) (k : i ≡ n) where
-    pub end_state : (end : State) → end ≡ run tl (meaning rl) from (take i cs) → end ≡ run t (meaning rule) st (take n cs)
-    end_state end x =
-        x
-        ∙ ap (λ (y : Terms). run y (meaning rl) from (take i cs)) f
-        ∙ ap (λ (y : R). run t (meaning y) from (take i cs)) e
-        ∙ ap (λ (y : State). run t (meaning rule) y (take i cs)) s
-        ∙ ap (λ (y : ℕ). run t (meaning rule) st (take y cs)) k
+  -- the end of the loop, with terms, rule, start and calls as they were given
+  module _ (tl : Terms) (rl : R) (from : State) (made : List Call) (f : tl ≡ t) (e : rl ≡ rule) (s : from ≡ st) (k : made ≡ cs) where
+    pub end_state : (end : State) → end ≡ run tl (meaning rl) from made → end ≡ run t (meaning rule) st cs
+    end_state end x = cc
 
-    pub end_outcomes : (came was : List Outcome) → n ≤ length cs → came ≡ outcomes tl (meaning rl) from (take i cs) ++ drop i was → came ≡ outcomes t (meaning rule) st (take n cs) ++ drop (length (take n cs)) was
-    end_outcomes came was within x =
-        x
-        ∙ ap (λ (y : Terms). outcomes y (meaning rl) from (take i cs) ++ drop i was) f
-        ∙ ap (λ (y : R). outcomes t (meaning y) from (take i cs) ++ drop i was) e
-        ∙ ap (λ (y : State). outcomes t (meaning rule) y (take i cs) ++ drop i was) s
-        ∙ ap (λ (y : ℕ). outcomes t (meaning rule) st (take y cs) ++ drop y was) k
-        ∙ ap (λ (y : ℕ). outcomes t (meaning rule) st (take n cs) ++ drop y was) (sym (length-take-le n cs within))
+    pub end_outcomes : (came was : List (Result Accepted Fault)) (i : ℕ) → i ≡ length made → came ≡ outcomes tl (meaning rl) from made ++ drop i was → came ≡ outcomes t (meaning rule) st cs ++ drop (length cs) was
+    end_outcomes came was i here x = cc
 
 -- before the first call there is no outcome
 pub no_outcomes : (t : Terms) (m : Meaning) (st : State) → outcomes t m st [] ≡ []

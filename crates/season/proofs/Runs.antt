@@ -1,5 +1,5 @@
 -- The law at the start, through the other calls, and at the end of every run.
-use Rattle.std.proofs.Common.{◌≡◌, ℕ, Bool, true, false, List, [], ◌∷◌, sym, refl, ap, ◌∙◌, arith}
+use Rattle.std.proofs.Common.{◌≡◌, Bool, true, false, List, [], ◌∷◌, sym, refl, ap, ◌∙◌, arith}
 use Rattle.std.proofs.lemmas.Int.{ints}
 use Rattle.domain.specs.declared.terms.Terms.{Terms}
 use Rattle.rules.specs.Meaning.{Meaning, Laws}
@@ -18,7 +18,7 @@ Kept t b = Adds b b.lines × AllSound t b
 
 -- nothing was written down yet
 pub sound_start : (t : Terms) → AllSound t nothing_yet
-sound_start t day period w e = let z : ◌≡◌ {A = ℕ} 0 1 = cc in absurd (omega arith)
+sound_start t day period w e = absurd cc
 
 -- and no line was sent
 pub law_start : Adds nothing_yet []

@@ -69,7 +69,7 @@ module _ (t : Terms) (m : Meaning) (laws : Laws m) (period kwh : ℕ) (range : i
   -- with or without
   sound_split : (o : Option AllocationRow) → ((row : AllocationRow) → o ≡ Some row → m.lawful (agreement t row) ≡ true) → ((place : ℕ) → place < t.places → holder place ≡ None → (o ≡ None) × (place ≡ 0 → ⊥)) → Sound t (record { kwh = kwh; holder = holder; row = o; share = shares_of t m o period kwh })
   sound_split None lawful none = sound_alone (λ place l h. (none place l h).1)
-  sound_split (Some row) lawful none = sound_row_lem row (lawful row refl) (λ place l h. let e = (none place l h).0 in let z : ◌≡◌ {A = ℕ} 0 1 = cc in omega arith)
+  sound_split (Some row) lawful none = sound_row_lem row (lawful row refl) (λ place l h. let e = (none place l h).0 in cc)
 
 in_range_lem : (period kwh : ℕ) → is_period period ≡ true → kwh ≤ most_kwh → in_range period kwh ≡ true
 in_range_lem period kwh h l =

@@ -4,5 +4,6 @@ pub mod Sound
 pub mod Granted
 pub mod Steps
 pub mod Outcomes
+pub mod Lent
 pub mod Replays
 pub mod Worked

@@ -3,14 +3,13 @@
 
 ghost use Rattle.season.specs.Granted.{LinesAddUp};
 ghost use Rattle.season.specs.Worked.{WorkedExamples};
-ghost use Rattle.std.specs.Prelude.{◌≡◌, take, IfOk, OnErr};
-ghost use Rattle.book.specs.Kept.{kept, opened};
+ghost use Rattle.std.specs.Prelude.{◌≡◌, IfOk, OnErr};
+ghost use Rattle.book.specs.Kept.{kept, opened, SameTerms};
 ghost use Rattle.season.specs.Steps.{step};
-ghost use Rattle.files.specs.Contents.{notice_of};
-ghost use Rattle.history.specs.Puts.{put_one, put_day, holding_if};
-ghost use Rattle.book.specs.Sharing.{done, holding, register_room, with_holders, schedule_room, with_rows};
+ghost use Rattle.book.specs.Sharing.{done};
 ghost use Rattle.book.specs.Readings.{blank_answer};
-ghost use Rattle.season.specs.Outcomes.{done_by, scheduled_by, outcome, state_of, start_of};
+ghost use Rattle.season.specs.Outcomes.{outcome, state_in, start_in};
+ghost use Rattle.season.specs.Lent.{SameTables};
 ghost use Rattle.season.specs.Replays.{Replayed, calls_made};
 
 use book::Book;
@@ -18,31 +17,22 @@ use domain::{AllocationRow, Fault, Line, Reading, Slot, Terms};
 use history::Dated;
 use rules::Rule;
 
-// What came of a call.
-#[derive(Clone, Copy)]
-pub enum Outcome {
-    // a register, a reading or an end that was accepted
+// What came of a call that was accepted.
+#[derive(Clone, Copy, PartialEq, Eq, Debug)]
+pub enum Accepted {
+    // a register, a reading or an end
     Done,
-    // a schedule that was accepted, with its notice
+    // a schedule, with its notice
     Scheduled { notice: [u8; 16] },
-    // an issue that was accepted, with the number of lines that it sent
+    // an issue, with the number of lines that it sent
     Issued { lines: usize },
-    Refused { fault: Fault },
 }
 
-impl Outcome {
-    fn of(answer: Result<(), Fault>) -> Outcome
-        ensures { result ≡ done_by answer }
-    {
-        match answer {
-            Ok(()) => Outcome::Done,
-            Err(fault) => Outcome::Refused { fault },
-        }
-    }
-}
+// What came of a call.
+pub type Outcome = Result<Accepted, Fault>;
 
 // A call of the book that changes something.
-#[derive(Clone, Copy)]
+#[derive(Clone, Copy, PartialEq, Eq, Debug)]
 pub enum Call<'a> {
     Register {
         place: u8,
@@ -72,12 +62,23 @@ pub enum Call<'a> {
     },
 }
 
+// The five tables that a book works on, lent together.
+#[derive(Drop)]
+pub struct Tables<'a> {
+    pub holders: &'a mut [Dated<u16>],
+    pub rows: &'a mut [Dated<AllocationRow>],
+    pub readings: &'a mut [Reading],
+    pub issued: &'a mut [Slot],
+    pub journal: &'a mut [Line],
+}
+
 // The definitions give the half hours and the corrections that were worked by hand.
 pub fn worked_examples()
     ensures { WorkedExamples }
 {}
 
 // After every run of calls whose issues found their day ready, the lines add up.
+#[tactic(auto, using(crate::proofs::Runs::lines_add_up))]
 pub fn lines_add_up()
     ensures { LinesAddUp }
 {}
@@ -87,111 +88,75 @@ pub fn lines_add_up()
 pub fn replay<R: Rule + Drop>(
     terms: Terms,
     rule: R,
-    holders: &mut [Dated<u16>],
-    rows: &mut [Dated<AllocationRow>],
-    readings: &mut [Reading],
-    issued: &mut [Slot],
-    journal: &mut [Line],
+    tables: &mut Tables<'_>,
     calls: &[Call<'_>],
     outcomes: &mut [Outcome],
 ) -> Result<Book<R>, Fault>
-    ensures answer { done result ≡ blank_answer terms readings.old issued.old }
+    ensures answer { done result ≡ blank_answer terms tables.old.readings.now tables.old.issued.now }
     ensures of { IfOk result (λ b. (b.terms ≡ terms) × (b.rule ≡ rule)) }
-    ensures replayed { IfOk result (λ b. Replayed terms (R.Rule.meaning rule) (start_of holders.old rows.old readings.old issued.old journal.old) (calls_made calls.now outcomes.old) outcomes.old (state_of (kept b) holders.new rows.new readings.new issued.new journal.new) outcomes.new) }
-    ensures refused { OnErr result ((state_of opened holders.new rows.new readings.new issued.new journal.new ≡ state_of opened holders.old rows.old readings.old issued.old journal.old) × (outcomes.new ≡ outcomes.old)) }
+    ensures replayed { IfOk result (λ b. Replayed terms (R.Rule.meaning rule) (start_in tables.old) (calls_made calls.now outcomes.old) outcomes.old (state_in (kept b) tables.new) outcomes.new) }
+    ensures refused { OnErr result ((state_in opened tables.new ≡ state_in opened tables.old) × (outcomes.new ≡ outcomes.old)) }
+    ensures lent { SameTables tables.old tables.new }
 {
     let mut book = Book::open(terms, rule);
-    book.blank(readings, issued)?;
+    book.blank(tables.readings, tables.issued)?;
     let count = calls.len().min(outcomes.len());
-    for i in 0..count {
-        let came = apply(
-            &mut book, holders, rows, readings, issued, journal, &calls[i],
-        );
-        outcomes[i] = came;
+    let made = &calls[..count];
+    // an outcome is written by its index: of what a loop over `iter_mut` wrote, a proof knows only the length
+    for (i, call) in made.iter().enumerate() {
+        outcomes[i] = apply(&mut book, tables, call);
     }
     Ok(book)
 }
 
 // Does what a call says on a book and its tables, and says what came of it.
-pub fn apply<R: Rule>(
-    book: &mut Book<R>,
-    holders: &mut [Dated<u16>],
-    rows: &mut [Dated<AllocationRow>],
-    readings: &mut [Reading],
-    issued: &mut [Slot],
-    journal: &mut [Line],
-    call: &Call<'_>,
-) -> Outcome
-    ensures answer { result ≡ outcome book.old.terms (R.Rule.meaning book.old.rule) (state_of (kept book.old) holders.old rows.old readings.old issued.old journal.old) call.now }
-    ensures after { (state_of (kept book.new) holders.new rows.new readings.new issued.new journal.new) ≡ step book.old.terms (R.Rule.meaning book.old.rule) (state_of (kept book.old) holders.old rows.old readings.old issued.old journal.old) call.now }
-    ensures same { (book.new.terms ≡ book.old.terms) × (book.new.rule ≡ book.old.rule) }
+// A table that is only read is taken out of the struct first: what a field lent as `&` holds is lost to the proof.
+pub fn apply<R: Rule>(book: &mut Book<R>, tables: &mut Tables<'_>, call: &Call<'_>) -> Outcome
+    ensures answer { result ≡ outcome book.old.terms (R.Rule.meaning book.old.rule) (state_in (kept book.old) tables.old) call.now }
+    ensures after { state_in (kept book.new) tables.new ≡ step book.old.terms (R.Rule.meaning book.old.rule) (state_in (kept book.old) tables.old) call.now }
+    ensures same { SameTerms book.old book.new }
+    ensures lent { SameTables tables.old tables.new }
 {
-    match call {
+    let holders = &mut *tables.holders;
+    match *call {
         Call::Register {
             place,
             day,
             supplier,
-        } => register(book, holders, *place, *day, *supplier),
+        } => book
+            .register(holders, place, day, supplier)
+            .map(|()| Accepted::Done),
         Call::Schedule {
             sender,
             day,
             moment,
-            rows: schedule_rows,
-        } => schedule(book, holders, rows, *sender, *day, *moment, schedule_rows),
+            rows,
+        } => book
+            .schedule(holders, tables.rows, sender, day, moment, rows)
+            .map(|receipt| Accepted::Scheduled {
+                notice: receipt.confirm(),
+            }),
         Call::Reading {
             day,
             period,
             quality,
             kwh,
-        } => Outcome::of(book.reading(readings, *day, *period, *quality, *kwh)),
+        } => book
+            .reading(tables.readings, day, period, quality, kwh)
+            .map(|()| Accepted::Done),
         Call::End {
             sender,
             day,
             moment,
-        } => Outcome::of(book.end(holders, *sender, *day, *moment)),
+        } => book
+            .end(holders, sender, day, moment)
+            .map(|()| Accepted::Done),
         Call::Issue { day, run } => {
-            match book.issue(holders, rows, readings, issued, journal, *day, *run) {
-                Ok(lines) => Outcome::Issued { lines },
-                Err(fault) => Outcome::Refused { fault },
-            }
+            let rows = &mut *tables.rows;
+            let readings = &mut *tables.readings;
+            let issued = &mut *tables.issued;
+            book.issue(holders, rows, readings, issued, tables.journal, day, run)
+                .map(|lines| Accepted::Issued { lines })
         }
-    }
-}
-
-fn register<R: Rule>(
-    book: &mut Book<R>,
-    holders: &mut [Dated<u16>],
-    place: u8,
-    day: u16,
-    supplier: u16,
-) -> Outcome
-    ensures answer { result ≡ done_by (register_room book.old.terms (kept book.old) holders.old place day supplier) }
-    ensures holders { holders.new ≡ holding_if (register_room book.old.terms (kept book.old) holders.old place day supplier) (put_one (take (kept book.old).holders holders.old) (holding place day supplier)) holders.old }
-    ensures keeps { kept book.new ≡ with_holders (register_room book.old.terms (kept book.old) holders.old place day supplier) (kept book.old) }
-    ensures same { (book.new.terms ≡ book.old.terms) × (book.new.rule ≡ book.old.rule) }
-{
-    Outcome::of(book.register(holders, place, day, supplier))
-}
-
-// Confirms the receipt of an accepted schedule.
-fn schedule<R: Rule>(
-    book: &mut Book<R>,
-    holders: &[Dated<u16>],
-    rows: &mut [Dated<AllocationRow>],
-    sender: u16,
-    day: u16,
-    moment: u32,
-    schedule: &[AllocationRow],
-) -> Outcome
-    ensures answer { result ≡ scheduled_by (schedule_room (R.Rule.meaning book.old.rule) book.old.terms (kept book.old) holders.now rows.old sender day moment schedule.now) (notice_of day sender moment) }
-    ensures rows { rows.new ≡ holding_if (schedule_room (R.Rule.meaning book.old.rule) book.old.terms (kept book.old) holders.now rows.old sender day moment schedule.now) (put_day (take (kept book.old).rows rows.old) day schedule.now) rows.old }
-    ensures keeps { kept book.new ≡ with_rows (schedule_room (R.Rule.meaning book.old.rule) book.old.terms (kept book.old) holders.now rows.old sender day moment schedule.now) (kept book.old) }
-    ensures same { (book.new.terms ≡ book.old.terms) × (book.new.rule ≡ book.old.rule) }
-{
-    match book.schedule(holders, rows, sender, day, moment, schedule) {
-        Ok(receipt) => Outcome::Scheduled {
-            notice: receipt.confirm(),
-        },
-        Err(fault) => Outcome::Refused { fault },
     }
 }

@@ -3,22 +3,14 @@
 
 #[cfg(test)]
 mod tests {
-    use domain::{AllocationRow, Line, Reading, Slot, Terms};
+    use domain::{AllocationRow, Line, PERIODS, Quality, Reading, Run, Slot, Terms};
     use history::Dated;
     use own_rule::Halves;
     use rules::{House, Rule};
-    use season::{Call, Outcome, replay};
+    use season::{Accepted, Call, Tables, replay};
+    use std::alloc::{AllocError, Global};
     use std::process::Abort;
     use std::test::Fail;
-
-    const NO_LINE: Line = Line {
-        day: 0,
-        period: 0,
-        place: 0,
-        supplier: 0,
-        run: 0,
-        volume: 0,
-    };
 
     // Seventy percent of each half hour is the first place's, and the second balances.
     const SEVENTY: AllocationRow = AllocationRow {
@@ -27,96 +19,79 @@ mod tests {
         nominations: [7_000, 0, 0, 0, 0, 0, 0, 0],
     };
 
-    const NO_HOLDER: Dated<u16> = Dated {
-        subject: 0,
+    const ISSUE: Call<'static> = Call::Issue {
         day: 0,
-        entry: 0,
+        run: Run::Initial as u8,
     };
 
-    const NO_ROW: Dated<AllocationRow> = Dated {
-        subject: 0,
-        day: 0,
-        entry: SEVENTY,
-    };
+    fn register(place: u8, supplier: u16) -> Call<'static> {
+        Call::Register {
+            place,
+            day: 0,
+            supplier,
+        }
+    }
+
+    fn reading(period: u8, kwh: u32) -> Call<'static> {
+        Call::Reading {
+            day: 0,
+            period,
+            quality: Quality::Actual as u8,
+            kwh,
+        }
+    }
 
     // Holders, a schedule, a day of readings with 30 kWh in period 13, and an issue;
     // then 20 kWh are read there, and then place 1 passes to 103, with an issue after each.
-    fn season<'a>(calls: &mut [Call<'a>], rows: &'a [AllocationRow]) {
-        if calls.len() < 56 {
-            return;
-        }
-        for period in 1..49u8 {
-            calls[2 + usize::from(period)] = Call::Reading {
-                day: 0,
-                period,
-                quality: 2,
-                kwh: if period == 13 { 30 } else { 0 },
-            };
-        }
-        calls[0] = Call::Register {
-            place: 0,
-            day: 0,
-            supplier: 101,
-        };
-        calls[1] = Call::Register {
-            place: 1,
-            day: 0,
-            supplier: 102,
-        };
-        calls[2] = Call::Schedule {
+    fn season<'a>(alloc: Global, rows: &'a [AllocationRow]) -> Result<Vec<Call<'a>>, AllocError> {
+        let mut calls = Vec::new(alloc);
+        calls.push(register(0, 101))?;
+        calls.push(register(1, 102))?;
+        calls.push(Call::Schedule {
             sender: 101,
             day: 0,
             moment: 1_380,
             rows,
-        };
-        calls[52] = Call::Reading {
-            day: 0,
-            period: 13,
-            quality: 2,
-            kwh: 20,
-        };
-        calls[54] = Call::Register {
-            place: 1,
-            day: 0,
-            supplier: 103,
-        };
+        })?;
+        for period in 1..=PERIODS {
+            calls.push(reading(period, if period == 13 { 30 } else { 0 }))?;
+        }
+        let corrections = [ISSUE, reading(13, 20), ISSUE, register(1, 103), ISSUE];
+        calls.extend_from_slice(&corrections)?;
+        Ok(calls)
     }
 
     // The journal of that season under a rule.
-    fn journal<R: Rule + Drop>(rt: &impl Abort, rule: R) -> Result<[Line; 8], Fail> {
+    fn journal<R: Rule + Drop>(
+        rt: &(impl Abort + AllocGlobal),
+        rule: R,
+    ) -> Result<[Line; 8], Fail> {
         let rows_of_day = [SEVENTY; 48];
-        let mut calls = [Call::Issue { day: 0, run: 1 }; 56];
-        season(&mut calls, &rows_of_day);
-        let mut holders = [NO_HOLDER; 4];
-        let mut rows = [NO_ROW; 48];
-        let mut readings = [Reading::NONE; 48];
-        let mut issued = [Slot::NONE; 96];
-        let mut lines = [NO_LINE; 8];
-        let mut outcomes = [Outcome::Done; 56];
+        let calls = season(rt.alloc(), &rows_of_day)?;
+        let mut lines = [Line::NONE; 8];
+        let mut outcomes = [Ok(Accepted::Done); 56];
+        let mut tables = Tables {
+            holders: &mut [Dated::blank(0); 4],
+            rows: &mut [Dated::blank(SEVENTY); 48],
+            readings: &mut [Reading::NONE; 48],
+            issued: &mut [Slot::NONE; 96],
+            journal: &mut lines,
+        };
         let terms = Terms::new(2, 1, 60)?;
-        let _book = replay(
-            terms,
-            rule,
-            &mut holders,
-            &mut rows,
-            &mut readings,
-            &mut issued,
-            &mut lines,
-            &calls,
-            &mut outcomes,
-        )?;
-        assert!(rt; matches!(outcomes[51], Outcome::Issued { lines: 2 }));
-        assert!(rt; matches!(outcomes[53], Outcome::Issued { lines: 2 }));
-        assert!(rt; matches!(outcomes[55], Outcome::Issued { lines: 2 }));
+        let _book = replay(terms, rule, &mut tables, calls.as_slice(), &mut outcomes)?;
+        for at in [51, 53, 55] {
+            let outcome = outcomes.get(at).copied();
+            assert_eq!(rt; outcome, Some(Ok(Accepted::Issued { lines: 2 })));
+        }
         Ok(lines)
     }
 
     // Whether the first six lines send these volumes to these suppliers, all for period 13.
     fn sends(rt: &impl Abort, lines: [Line; 8], expected: [(u16, i32); 6]) {
-        for i in 0..6usize {
-            assert_eq!(rt; lines[i].period, 13);
-            assert_eq!(rt; lines[i].supplier, expected[i].0);
-            assert_eq!(rt; lines[i].volume, expected[i].1);
+        for (line, (supplier, volume)) in lines.iter().zip(expected) {
+            assert_eq!(rt; line.period, 13);
+            assert_eq!(rt; line.supplier, supplier);
+            assert_eq!(rt; line.volume, volume);
         }
         assert_eq!(rt; lines[6].supplier, 0);
     }

@@ -1,1 +1,1 @@
-mod Listing
+mod Spelled

@@ -3,7 +3,6 @@ use Rattle.std.specs.Prelude.{ℕ, ◌+◌, ◌-◌, cond, List, [], ◌∷◌, 
 use Rattle.text.specs.Fields.{and_then, word_number, most32}
 use Rattle.text.specs.declared.fields.WordFault.{WordFault}
 use Rattle.text.specs.declared.fields.WordFault.TheVariants.{Extra}
-use Rattle.seasonlines.specs.declared.numbers.Numbers.{Numbers}
 
 -- the numbers in the words that are left after some: at most `most` in all, of which the first is the line's word `first`
 abbrev pub numbers_in : ℕ → ℕ → List ℕ → List (List ℕ) → Result (List ℕ) WordFault
@@ -14,7 +13,3 @@ numbers_in first most ns (w ∷ ws) =
 -- these numbers in the first of n places, and 0 in the others
 abbrev pub padded : ℕ → List ℕ → List ℕ
 padded n ns = ns ++ replicate (n - length ns) 0
-
--- at most n numbers, as the code holds them
-abbrev pub listed : (n : ℕ) → List ℕ → Numbers n
-listed n ns = record { list = padded n ns; count = length ns }

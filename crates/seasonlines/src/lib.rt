@@ -3,12 +3,15 @@
 
 ghost use Rattle.std.specs.Prelude.{◌≡◌, Some};
 ghost use Rattle.text.specs.Words.{words_of, uncommented};
-ghost use Rattle.seasonlines.specs.Slips.{slip_of, slip_text};
+ghost use Rattle.text.specs.Left.{words_left};
+ghost use Rattle.seasonlines.specs.declared.Slip.TheVariants.{Word};
+ghost use Rattle.seasonlines.specs.Slips.{slip_text};
 ghost use Rattle.seasonlines.specs.Entries.{entry_of, said_of};
 
+use arrayvec::ArrayVec;
 use domain::AllocationRow;
 use std::fmt;
-use text::{WordFault, Words, before_comment, next_word};
+use text::{WordFault, Words, before_comment};
 
 mod calls;
 mod numbers;
@@ -20,10 +23,8 @@ use verbs::Verb;
 pub const MAX_FIGURES: usize = 48;
 
 // What a line of a season says.
-#[derive(Clone, Copy)]
+#[derive(Drop)]
 pub enum Entry {
-    // A line without words.
-    Blank,
     Terms {
         places: u8,
         days: u16,
@@ -33,11 +34,6 @@ pub enum Entry {
         holders: u64,
         rows: u64,
         journal: u64,
-    },
-    Register {
-        place: u8,
-        day: u16,
-        supplier: u16,
     },
     Schedule {
         sender: u16,
@@ -50,18 +46,28 @@ pub enum Entry {
         to: u8,
         row: AllocationRow,
     },
+    Ask(Request),
+}
+
+// A call of the book, or a question to it.
+#[derive(Drop)]
+pub enum Request {
+    Register {
+        place: u8,
+        day: u16,
+        supplier: u16,
+    },
     Reading {
         day: u16,
         period: u8,
         quality: u8,
         kwh: u32,
     },
-    // The figures of the periods 1 to `count`, at least one; after them stand zeros.
+    // The figures of the day's periods from 1 on, at least one.
     Readings {
         day: u16,
         quality: u8,
-        figures: [u32; MAX_FIGURES],
-        count: u8,
+        figures: ArrayVec<u32, MAX_FIGURES>,
     },
     End {
         sender: u16,
@@ -81,20 +87,22 @@ pub enum Entry {
         first: u64,
         count: u64,
     },
-    // A line that begins with `row`, and is none.
-    FaultyRow(Slip),
-    // Any other line that is no call.
-    Faulty(Slip),
 }
 
-// What is wrong with a line, mostly with the number of the word where it shows. The name of a call is word 1.
-#[derive(Clone, Copy)]
+// A line with words that is no entry.
+#[derive(Clone, Copy, Debug, PartialEq, Eq)]
+pub enum Faulty {
+    // It begins with `row`.
+    Row(Slip),
+    // Any other line.
+    Line(Slip),
+}
+
+// What is wrong with a line. The name of a call is word 1.
+#[derive(Clone, Copy, Debug, PartialEq, Eq)]
 pub enum Slip {
     UnknownWord,
-    Missing(u8),
-    NotDecimal(u8),
-    TooLarge(u8),
-    Extra(u8),
+    Word(WordFault),
     RowPeriods,
     RowOutside,
     BeforeTerms,
@@ -108,10 +116,7 @@ impl fmt::Display for Slip {
     fn fmt<W: fmt::Write>(&self, f: &mut fmt::Formatter<W>) -> fmt::Result {
         match self {
             Slip::UnknownWord => write!(f, "unknown word"),
-            Slip::Missing(word) => write!(f, "{}", WordFault::Missing(*word)),
-            Slip::NotDecimal(word) => write!(f, "{}", WordFault::NotDecimal(*word)),
-            Slip::TooLarge(word) => write!(f, "{}", WordFault::TooLarge(*word)),
-            Slip::Extra(word) => write!(f, "{}", WordFault::Extra(*word)),
+            Slip::Word(fault) => write!(f, "{fault}"),
             Slip::RowPeriods => write!(f, "the periods are not within 1 to 48 in order"),
             Slip::RowOutside => write!(f, "a row outside a schedule"),
             Slip::BeforeTerms => write!(f, "a call before terms"),
@@ -122,37 +127,28 @@ impl fmt::Display for Slip {
 }
 
 impl From<WordFault> for Slip {
-    ghost from_gives = { λ f r. r ≡ slip_of f };
+    ghost from_gives = { λ f r. r ≡ Word f };
 
     fn from(fault: WordFault) -> Slip {
-        match fault {
-            WordFault::Missing(word) => Slip::Missing(word),
-            WordFault::NotDecimal(word) => Slip::NotDecimal(word),
-            WordFault::TooLarge(word) => Slip::TooLarge(word),
-            WordFault::Extra(word) => Slip::Extra(word),
-        }
+        Slip::Word(fault)
     }
 }
 
-// What a line says. Its words are judged from left to right, and the first fault is told.
-pub fn read_line(line: &[u8]) -> Entry
+// What a line says, unless it has no words. Its words are judged from left to right, and the first fault is told.
+pub fn read_line(line: &[u8]) -> Result<Option<Entry>, Faulty>
     ensures { result ≡ entry_of (words_of (uncommented line.now)) }
 {
-    match next_word(before_comment(line)) {
-        Some(word) => said(word.first, &mut Words { rest: word.rest }),
-        None => Entry::Blank,
+    let mut words = Words::of(before_comment(line));
+    match words.next() {
+        Some(word) => Ok(Some(said(word, words)?)),
+        None => Ok(None),
     }
 }
 
 // What a line says with this first word and these words after it.
-fn said(word: &[u8], words: &mut Words<'_>) -> Entry
-    ensures { result ≡ said_of word.now (words_of words.old.rest.now) }
+fn said(word: &[u8], words: Words<'_>) -> Result<Entry, Faulty>
+    ensures { result ≡ said_of word.now (words_left words.entry) }
 {
-    let Some(verb) = Verb::of(word) else {
-        return Entry::Faulty(Slip::UnknownWord);
-    };
-    match verb.said(words) {
-        Ok(entry) => entry,
-        Err(fault) => verb.faulty(Slip::from(fault)),
-    }
+    let verb = Verb::of(word).ok_or(Faulty::Line(Slip::UnknownWord))?;
+    verb.said(words).map_err(|slip| verb.faulty(slip))
 }

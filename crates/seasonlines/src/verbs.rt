@@ -1,12 +1,11 @@
 // The first word of a line, which says what the line is.
 ghost use Rattle.std.specs.Prelude.{◌≡◌};
-ghost use Rattle.text.specs.Words.{words_of};
-ghost use Rattle.std.specs.Str.{bytes_eq};
+ghost use Rattle.text.specs.Left.{words_left};
 ghost use Rattle.seasonlines.specs.Verbs.{verb_of, faulty_of};
 ghost use Rattle.seasonlines.specs.Entries.{said_by};
 
-use crate::{Entry, Slip, calls};
-use text::{WordFault, Words};
+use crate::{Entry, Faulty, Slip, calls};
+use text::Words;
 
 #[derive(Clone, Copy)]
 pub(crate) enum Verb {
@@ -27,36 +26,25 @@ impl Verb {
     pub(crate) fn of(word: &[u8]) -> Option<Verb>
         ensures { result ≡ verb_of word.now }
     {
-        if is_word(word, b"terms") {
-            Some(Verb::Terms)
-        } else if is_word(word, b"tables") {
-            Some(Verb::Tables)
-        } else if is_word(word, b"register") {
-            Some(Verb::Register)
-        } else if is_word(word, b"schedule") {
-            Some(Verb::Schedule)
-        } else if is_word(word, b"row") {
-            Some(Verb::Row)
-        } else if is_word(word, b"reading") {
-            Some(Verb::Reading)
-        } else if is_word(word, b"readings") {
-            Some(Verb::Readings)
-        } else if is_word(word, b"end") {
-            Some(Verb::End)
-        } else if is_word(word, b"issue") {
-            Some(Verb::Issue)
-        } else if is_word(word, b"volume") {
-            Some(Verb::Volume)
-        } else if is_word(word, b"statement") {
-            Some(Verb::Statement)
-        } else {
-            None
+        match word {
+            b"terms" => Some(Verb::Terms),
+            b"tables" => Some(Verb::Tables),
+            b"register" => Some(Verb::Register),
+            b"schedule" => Some(Verb::Schedule),
+            b"row" => Some(Verb::Row),
+            b"reading" => Some(Verb::Reading),
+            b"readings" => Some(Verb::Readings),
+            b"end" => Some(Verb::End),
+            b"issue" => Some(Verb::Issue),
+            b"volume" => Some(Verb::Volume),
+            b"statement" => Some(Verb::Statement),
+            _ => None,
         }
     }
 
-    // What the words after this one say.
-    pub(crate) fn said(self, words: &mut Words<'_>) -> Result<Entry, WordFault>
-        ensures { result ≡ said_by self (words_of words.old.rest.now) }
+    // What the words after this one say. One arm for each word, since a table of functions would have to be handed out.
+    pub(crate) fn said(self, words: Words<'_>) -> Result<Entry, Slip>
+        ensures { result ≡ said_by self (words_left words.entry) }
     {
         match self {
             Verb::Terms => calls::terms(words),
@@ -74,18 +62,12 @@ impl Verb {
     }
 
     // A line that begins with this word and has a slip.
-    pub(crate) fn faulty(self, slip: Slip) -> Entry
+    pub(crate) fn faulty(self, slip: Slip) -> Faulty
         ensures { result ≡ faulty_of self slip }
     {
         match self {
-            Verb::Row => Entry::FaultyRow(slip),
-            _ => Entry::Faulty(slip),
+            Verb::Row => Faulty::Row(slip),
+            _ => Faulty::Line(slip),
         }
     }
-}
-
-fn is_word(word: &[u8], name: &[u8]) -> bool
-    ensures { result ≡ bytes_eq word.now name.now }
-{
-    word == name
 }

@@ -19,7 +19,7 @@ use Rattle.book.specs.Kept.{opened}
 use Rattle.book.specs.Readings.{blank_answer}
 use Rattle.season.specs.declared.Call.{Call}
 use Rattle.season.specs.declared.Call.TheVariants as call
-use Rattle.season.specs.declared.Outcome.{Outcome}
+use Rattle.season.specs.declared.Accepted.{Accepted}
 use Rattle.season.specs.Plain.{Plain, nothing_yet, plain_step}
 use Rattle.season.specs.Steps.{issued}
 use Rattle.season.specs.Outcomes.{issued_by, state_of}
@@ -28,10 +28,14 @@ use Rattle.season.proofs.Replaying.{agrees_start}
 use Rattle.season.proofs.Runs.{law_start, sound_start}
 use Rattle.seasonlines.specs.declared.Entry.{Entry}
 use Rattle.seasonlines.specs.declared.Entry.TheVariants as entry
+use Rattle.seasonlines.specs.declared.Request.{Request}
+use Rattle.seasonlines.specs.declared.Request.TheVariants as request
+use Rattle.seasonlines.specs.declared.Faulty.{Faulty}
+use Rattle.seasonlines.specs.declared.Faulty.TheVariants as faulty
 use Rattle.seasonlines.specs.declared.Slip.{Slip}
 use Rattle.seasonlines.specs.declared.Slip.TheVariants.{TablesLate}
 use Rattle.seasontext.specs.declared.desk.Draft.{Draft}
-use Rattle.seasontext.specs.Runs.{Run, slipped, answered, told, stepped, came_of, called, noted, issued_day, volume_asked, statement_asked, read_all, lent, closed_by, closed, drafted, row_put, row_faulty, tables_of, tables_put, within, entered, line_done, with_draft}
+use Rattle.seasontext.specs.Runs.{Run, slipped, answered, told, stepped, came_of, called, noted, issued_day, volume_asked, statement_asked, read_all, lent, closed_by, closed, drafted, row_put, row_faulty, tables_of, tables_put, within, asked, entered, line_done, with_draft}
 use Rattle.seasontext.specs.Seasons.{start_of, run_lines, entry_in}
 use Rattle.seasontext.specs.Sums.{agree_text}
 use Rattle.seasontext.specs.Agreeing.{SeasonsAgree}
@@ -104,7 +108,7 @@ good_answered : (accepted : Bool) (text : List ℕ) (s : Run) → Even s.terms s
 unfolding answered
 good_answered accepted text s h = record { even = h; blank = λ e. no_first s.calls e }
 
-good_told : (first : ℕ) (came : Outcome) (s : Run) → Even s.terms s.state s.split → Good (told first came s)
+good_told : (first : ℕ) (came : Result Accepted Fault) (s : Run) → Even s.terms s.state s.split → Good (told first came s)
 unfolding told
 good_told first came s h = good_answered _ _ s h
 
@@ -188,28 +192,32 @@ good_tables_put : (number holders rows journal : ℕ) (s : Run) → Good s → G
 unfolding tables_put
 good_tables_put number holders rows journal s h = good_tables number holders rows journal s _ refl h
 
+-- whatever is asked
+good_asked : (r : Request) (s : Run) → Good s → Good (asked r s)
+good_asked (request.Register place day supplier) s h = good_register place day supplier s h
+good_asked (request.Reading day period quality kwh) s h = good_reading day period quality kwh s h
+good_asked (request.Readings day quality figures) s h = good_read_all day quality figures.items (length figures.items) s h
+good_asked (request.End sender day moment) s h = good_end sender day moment s h
+good_asked (request.Issue day run) s h = good_issued day run s h
+good_asked (request.Volume day period place) s h = good_volume day period place s h
+good_asked (request.Statement first count) s h = good_statement first count s h
+
 -- whatever a line says
-good_entered : (number : ℕ) (e : Entry) (s : Run) → Good s → Good (entered number e s)
-good_entered number entry.Blank s h = h
-good_entered number (entry.Terms places days capacity) s h = good_slipped number _ s h
-good_entered number (entry.Tables holders rows journal) s h = good_tables_put number holders rows journal s h
-good_entered number (entry.Register place day supplier) s h = good_register place day supplier s h
-good_entered number (entry.Schedule sender day moment) s h = good_drafted sender day moment s h
-good_entered number (entry.Row from to row) s h = good_row number s.draft from to row s h
-good_entered number (entry.Reading day period quality kwh) s h = good_reading day period quality kwh s h
-good_entered number (entry.Readings day quality figures count) s h = good_read_all day quality figures count s h
-good_entered number (entry.End sender day moment) s h = good_end sender day moment s h
-good_entered number (entry.Issue day run) s h = good_issued day run s h
-good_entered number (entry.Volume day period place) s h = good_volume day period place s h
-good_entered number (entry.Statement first count) s h = good_statement first count s h
-good_entered number (entry.FaultyRow slip) s h = good_faulty number s.draft slip s h
-good_entered number (entry.Faulty slip) s h = good_slipped number slip s h
+good_entered : (number : ℕ) (e : Result (Option Entry) Faulty) (s : Run) → Good s → Good (entered number e s)
+good_entered number (Ok None) s h = h
+good_entered number (Ok (Some (entry.Terms places days capacity))) s h = good_slipped number _ s h
+good_entered number (Ok (Some (entry.Tables holders rows journal))) s h = good_tables_put number holders rows journal s h
+good_entered number (Ok (Some (entry.Schedule sender day moment))) s h = good_drafted sender day moment s h
+good_entered number (Ok (Some (entry.Row from to row))) s h = good_row number s.draft from to row s h
+good_entered number (Ok (Some (entry.Ask r))) s h = good_asked r s h
+good_entered number (Err (faulty.Row slip)) s h = good_faulty number s.draft slip s h
+good_entered number (Err (faulty.Line slip)) s h = good_slipped number slip s h
 
 good_before : (inside : Bool) (s : Run) → Good s → Good (cond inside s (closed s))
 good_before true s h = h
 good_before false s h = good_closed s.draft s h
 
-good_line : (number : ℕ) (e : Entry) (s : Run) → Good s → Good (line_done number e s)
+good_line : (number : ℕ) (e : Result (Option Entry) Faulty) (s : Run) → Good s → Good (line_done number e s)
 unfolding line_done
 good_line number e s h = good_entered number e _ (good_before (within e) s h)
 

@@ -1,5 +1,4 @@
-pub mod Parts
-pub mod Hexed
+pub mod Hexes
 pub mod Desks
 pub mod Evens
 pub mod Agreed
@@ -8,4 +7,5 @@ pub mod Statements
 pub mod Totals
 pub mod Seasons
 pub mod Starts
-pub mod Asked
+pub mod Suppliers
+pub mod Numbered

@@ -1,5 +1,6 @@
 -- A season's lines, one after the other.
-use Rattle.std.proofs.Common.{◌≡◌, ℕ, ◌+◌, ◌≤◌, Bool, List, [], ◌∷◌, ◌++◌, Some, None, Option, sym, refl, ap, ◌∙◌, arith}
+use Rattle.std.specs.Result.{MatchResult}
+use Rattle.std.proofs.Common.{◌≡◌, ℕ, ◌+◌, ◌≤◌, Bool, List, [], ◌∷◌, ◌++◌, Some, None, Ok, Err, Option, Result, sym, refl, ap, ◌∙◌, arith}
 use mathlib.Core.HLevel.{is_prop→PathP}
 use native.Mathlib.Bridge.{le_prop}
 use Rattle.domain.specs.Limits.{fewest_places, most_places, most_days, most_capacity}
@@ -9,9 +10,10 @@ use Rattle.domain.specs.declared.Line.{Line}
 use Rattle.domain.specs.declared.terms.Terms.{Terms}
 use Rattle.book.specs.Statements.{lines_from}
 use Rattle.seasonlines.specs.declared.Entry.{Entry}
-use Rattle.seasonlines.specs.declared.Entry.TheVariants as entry
+use Rattle.seasonlines.specs.declared.Faulty.{Faulty}
+use Rattle.seasontext.specs.Openings.{reached}
 use Rattle.seasontext.specs.Runs.{Run, closed, line_done}
-use Rattle.seasontext.specs.Seasons.{entry_in, run_lines, ended, start_of, terms_of, terms_refused, opened_by, opened_at, before_text, terms_or, until_terms}
+use Rattle.seasontext.specs.Seasons.{entry_in, run_lines, ended, start_of, terms_of, opened_by, opened_at, before_text, terms_in, terms_or, until_terms}
 use Rattle.seasontext.specs.Sums.{tables_text}
 
 run_none : (n : ℕ) (s : Run) → run_lines n s [] ≡ s
@@ -23,7 +25,7 @@ unfolding run_lines
 run_more n s l ls = refl
 
 -- one more line
-pub lines_turn : (n n' : ℕ) (s s' end : Run) (e : Entry) (l : List ℕ) (ls rest : List (List ℕ)) → rest ≡ l ∷ ls → e ≡ entry_in l → s' ≡ line_done n e s → n' ≡ n + 1 → run_lines n s rest ≡ end → run_lines n' s' ls ≡ end
+pub lines_turn : (n n' : ℕ) (s s' end : Run) (e : Result (Option Entry) Faulty) (l : List ℕ) (ls rest : List (List ℕ)) → rest ≡ l ∷ ls → e ≡ entry_in l → s' ≡ line_done n e s → n' ≡ n + 1 → run_lines n s rest ≡ end → run_lines n' s' ls ≡ end
 lines_turn n n' s s' end e l ls rest split is done next so = let more = run_more n s l ls in cc
 
 -- no line is left
@@ -60,31 +62,12 @@ terms_is t p d c ep ed ec =
     same_terms t (terms_of p d c) (omega arith) (omega arith) (omega arith)
 
 -- terms that are given, or refused
-module _ (quiet : Bool) (n : ℕ) (text : List ℕ) (p d c : ℕ) (ls : List (List ℕ)) (out : List ℕ) where
-  pub open_runs : (t : Terms) → terms_fault p d c ≡ None → t.places ≡ p → t.days ≡ d → t.capacity ≡ c → out ≡ ended (run_lines n (start_of 512 65536 t quiet text) ls) → out ≡ opened_at quiet n text p d c ls
-  unfolding opened_by
-  open_runs t fine ep ed ec ran =
-      ran ∙ (ap (λ x. ended (run_lines n (start_of 512 65536 x quiet text) ls)) (terms_is t p d c ep ed ec) ∙ ap (λ f. opened_by f quiet n text p d c ls) (sym fine))
-
-  pub open_refuses : (fault : Fault) → terms_fault p d c ≡ Some fault → out ≡ text ++ terms_refused fault → out ≡ opened_at quiet n text p d c ls
-  unfolding opened_by
-  open_refuses fault refused ran = ran ∙ ap (λ f. opened_by f quiet n text p d c ls) (sym refused)
-
-other_terms : (e : Entry) (given : ℕ → ℕ → ℕ → List ℕ) (other : List ℕ) → ((p d c : ℕ) → e ≡ entry.Terms p d c → ⊥) → terms_or e given other ≡ other
-other_terms entry.Blank given other no-terms = refl
-other_terms (entry.Terms p d c) given other no-terms = absurd (no-terms p d c refl)
-other_terms (entry.Tables h r j) given other no-terms = refl
-other_terms (entry.Register p d s) given other no-terms = refl
-other_terms (entry.Schedule s d m) given other no-terms = refl
-other_terms (entry.Row f t r) given other no-terms = refl
-other_terms (entry.Reading d p q k) given other no-terms = refl
-other_terms (entry.Readings d q f n) given other no-terms = refl
-other_terms (entry.End s d m) given other no-terms = refl
-other_terms (entry.Issue d r) given other no-terms = refl
-other_terms (entry.Volume d p q) given other no-terms = refl
-other_terms (entry.Statement f n) given other no-terms = refl
-other_terms (entry.FaultyRow s) given other no-terms = refl
-other_terms (entry.Faulty s) given other no-terms = refl
+pub opened_is : (quiet : Bool) (n : ℕ) (text : List ℕ) (p d c : ℕ) (ls : List (List ℕ)) (r : Result Terms Fault) → MatchResult r (λ t. (terms_fault p d c ≡ None) × (t.places ≡ p) × (t.days ≡ d) × (t.capacity ≡ c)) (λ f. terms_fault p d c ≡ Some f) → reached quiet n text (Some r) ls ≡ opened_at quiet n text p d c ls
+unfolding opened_by
+opened_is quiet n text p d c ls (Ok t) h =
+    ap (λ x. ended (run_lines n (start_of 512 65536 x quiet text) ls)) (terms_is t p d c h.1 h.2 h.3)
+    ∙ ap (λ f. opened_by f quiet n text p d c ls) (sym h.0)
+opened_is quiet n text p d c ls (Err fault) h = ap (λ f. opened_by f quiet n text p d c ls) (sym h)
 
 -- a line before the terms, the line of the terms, and the end without them
 module _ (quiet : Bool) (n : ℕ) (text : List ℕ) (rest : List (List ℕ)) (whole : List ℕ) (so : until_terms quiet n text rest ≡ whole) where
@@ -92,18 +75,22 @@ module _ (quiet : Bool) (n : ℕ) (text : List ℕ) (rest : List (List ℕ)) (wh
   unfolding until_terms
   until_end none = ap (until_terms quiet n text) (sym none) ∙ so
 
-  module _ (n' : ℕ) (e : Entry) (l : List ℕ) (ls : List (List ℕ)) (split : rest ≡ l ∷ ls) (is : e ≡ entry_in l) (next : n' ≡ n + 1) where
-    at_line : terms_or e (λ p d c. opened_at quiet n' text p d c ls) (until_terms quiet n' (text ++ before_text n e) ls) ≡ whole
+  module _ (n' : ℕ) (e : Result (Option Entry) Faulty) (o : Option (ℕ × ℕ × ℕ)) (l : List ℕ) (ls : List (List ℕ)) (split : rest ≡ l ∷ ls) (is : e ≡ entry_in l) (given : o ≡ terms_in e) (next : n' ≡ n + 1) where
+    at_line : terms_or o (λ p d c. opened_at quiet n' text p d c ls) (until_terms quiet n' (text ++ before_text n e) ls) ≡ whole
     unfolding until_terms
     at_line =
-        ap (λ m. terms_or e (λ p d c. opened_at quiet m text p d c ls) (until_terms quiet m (text ++ before_text n e) ls)) next
-        ∙ (ap (λ x. terms_or x (λ p d c. opened_at quiet (n + 1) text p d c ls) (until_terms quiet (n + 1) (text ++ before_text n x) ls)) is
-        ∙ (ap (until_terms quiet n text) (sym split) ∙ so))
+        ap (λ m. terms_or o (λ p d c. opened_at quiet m text p d c ls) (until_terms quiet m (text ++ before_text n e) ls)) next
+        ∙ ap (λ x. terms_or x (λ p d c. opened_at quiet (n + 1) text p d c ls) (until_terms quiet (n + 1) (text ++ before_text n e) ls)) given
+        ∙ ap (λ x. terms_or (terms_in x) (λ p d c. opened_at quiet (n + 1) text p d c ls) (until_terms quiet (n + 1) (text ++ before_text n x) ls)) is
+        ∙ ap (until_terms quiet n text) (sym split)
+        ∙ so
 
-    pub until_more : (text' : List ℕ) → ((p d c : ℕ) → e ≡ entry.Terms p d c → ⊥) → text' ≡ text ++ before_text n e → until_terms quiet n' text' ls ≡ whole
-    until_more text' no-terms wrote =
-        ap (λ t. until_terms quiet n' t ls) wrote ∙ (sym (other_terms e (λ p d c. opened_at quiet n' text p d c ls) (until_terms quiet n' (text ++ before_text n e) ls) no-terms) ∙ at_line)
+    pub until_more : (text' : List ℕ) → o ≡ None → text' ≡ text ++ before_text n e → until_terms quiet n' text' ls ≡ whole
+    until_more text' none wrote =
+        ap (λ t. until_terms quiet n' t ls) wrote
+        ∙ ap (λ x. terms_or x (λ p d c. opened_at quiet n' text p d c ls) (until_terms quiet n' (text ++ before_text n e) ls)) (sym none)
+        ∙ at_line
 
-    pub until_terms_lem : (p d c : ℕ) → e ≡ entry.Terms p d c → opened_at quiet n' text p d c ls ≡ whole
-    until_terms_lem p d c given =
-        ap (λ x. terms_or x (λ p d c. opened_at quiet n' text p d c ls) (until_terms quiet n' (text ++ before_text n e) ls)) (sym given) ∙ at_line
+    pub until_met : (p d c : ℕ) → o ≡ Some (p, d, c) → opened_at quiet n' text p d c ls ≡ whole
+    until_met p d c some =
+        ap (λ x. terms_or x (λ p d c. opened_at quiet n' text p d c ls) (until_terms quiet n' (text ++ before_text n e) ls)) (sym some) ∙ at_line

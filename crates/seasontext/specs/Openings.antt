@@ -1,16 +1,16 @@
 -- How far a season has come when the terms are met, or the lines have ended without them.
-use Rattle.std.specs.Prelude.{ℕ, Bool, List, [], ◌++◌, Some, None, Option}
-use Rattle.text.specs.Words.{lines_of}
-use Rattle.seasontext.specs.Seasons.{opened_at}
+use Rattle.std.specs.Prelude.{ℕ, ◌+◌, ◌^◌, ◌<◌, Bool, List, [], ◌++◌, length, Some, None, Ok, Err, Option, Result}
+use Rattle.domain.specs.declared.Fault.{Fault}
+use Rattle.domain.specs.declared.terms.Terms.{Terms}
+use Rattle.seasontext.specs.Seasons.{start_of, run_lines, ended, terms_refused}
 use Rattle.seasontext.specs.Sums.{tables_text}
-use Rattle.seasontext.specs.declared.Opening.{Opening}
 
--- what is printed from the terms on, behind a text
-abbrev pub opening_text : Bool → List ℕ → Opening → List ℕ
-opening_text quiet text o =
-    opened_at quiet o.number text o.places o.days o.capacity (lines_of o.rest.now)
+-- the numbers of these lines, of which the first is this one, have 64 bits
+abbrev pub HasNumbers : ℕ → List (List ℕ) → Type 0
+HasNumbers number lines = number + length lines < 2 ^ 64
 
--- what is printed of a season, where this text stands before the terms, or before its end
-abbrev pub reached : Bool → List ℕ → Option Opening → List ℕ
-reached quiet text None = text ++ tables_text [] []
-reached quiet text (Some o) = opening_text quiet text o
+-- what is printed of a season, where this text stands before its terms, or before its end, and the line `number` and those after it are left
+abbrev pub reached : Bool → ℕ → List ℕ → Option (Result Terms Fault) → List (List ℕ) → List ℕ
+reached quiet number text None lines = text ++ tables_text [] []
+reached quiet number text (Some (Ok terms)) lines = ended (run_lines number (start_of 512 65536 terms quiet text) lines)
+reached quiet number text (Some (Err fault)) lines = text ++ terms_refused fault

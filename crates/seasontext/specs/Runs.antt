@@ -1,5 +1,5 @@
 -- What a line of a season does: to the book, to its tables, and to what has been printed.
-use Rattle.std.specs.Prelude.{ℕ, zero, suc, ◌+◌, ◌-◌, ◌*◌, Bool, true, false, cond, not, ◌&&◌, List, ◌++◌, length, replicate, is_ok, Some, None, Option, ◌==◌, slice_index, slice_index_or, slice_set}
+use Rattle.std.specs.Prelude.{ℕ, zero, suc, ◌+◌, ◌-◌, ◌*◌, Bool, true, false, cond, not, ◌&&◌, List, ◌++◌, length, replicate, is_ok, Some, None, Ok, Err, Option, Result, ◌==◌, slice_index, slice_index_or, slice_set}
 use Rattle.std.specs.Borrow.{Bor}
 use Rattle.domain.specs.Checks.{no_reading}
 use Rattle.domain.specs.Limits.{periods}
@@ -12,14 +12,19 @@ use Rattle.files.specs.Contents.{of_statement, file_of}
 use Rattle.files.specs.Formats.{most_bytes}
 use Rattle.book.specs.Statements.{lines_from, statement_answer}
 use Rattle.book.specs.Volumes.{volume_answer}
-use Rattle.season.specs.Outcomes.{accepted, outcome, state_of}
+use Rattle.season.specs.Outcomes.{outcome, state_of}
 use Rattle.season.specs.Steps.{State, step}
 use Rattle.season.specs.declared.Call.{Call}
 use Rattle.season.specs.declared.Call.TheVariants as call
-use Rattle.season.specs.declared.Outcome.{Outcome}
-use Rattle.season.specs.declared.Outcome.TheVariants.{Done, Scheduled, Issued, Refused}
+use Rattle.season.specs.declared.Accepted.{Accepted}
+use Rattle.season.specs.declared.Accepted.TheVariants.{Done, Scheduled, Issued}
+use Rattle.domain.specs.declared.Fault.{Fault}
 use Rattle.seasonlines.specs.declared.Entry.{Entry}
 use Rattle.seasonlines.specs.declared.Entry.TheVariants as entry
+use Rattle.seasonlines.specs.declared.Request.{Request}
+use Rattle.seasonlines.specs.declared.Request.TheVariants as request
+use Rattle.seasonlines.specs.declared.Faulty.{Faulty}
+use Rattle.seasonlines.specs.declared.Faulty.TheVariants as faulty
 use Rattle.seasonlines.specs.declared.Slip.{Slip}
 use Rattle.seasonlines.specs.declared.Slip.TheVariants.{RowOutside, TermsAgain, TablesLate}
 use Rattle.seasontext.specs.Blanks.{no_holder, no_row, no_dated_row, no_line}
@@ -73,15 +78,15 @@ unfoldable pub answered : Bool → List ℕ → Run → Run
 answered accepted text s = counted (saying (spoken s.quiet accepted text) s)
 
 -- what came of a call, made where the book had sent `first` lines
-unfoldable pub told : ℕ → Outcome → Run → Run
-told first came s = answered (accepted came) (outcome_text (s.calls + 1) s.state.journal first came) s
+unfoldable pub told : ℕ → Result Accepted Fault → Run → Run
+told first came s = answered (is_ok came) (outcome_text (s.calls + 1) s.state.journal first came) s
 
 -- the book and its tables after a call
 unfoldable pub stepped : Call → Run → Run
 stepped c s = with_state (step s.terms house s.state c) s
 
 -- what comes of a call
-unfoldable pub came_of : Call → Run → Outcome
+unfoldable pub came_of : Call → Run → Result Accepted Fault
 came_of c s = outcome s.terms house s.state c
 
 -- a call is made, and printed
@@ -94,13 +99,17 @@ copied readings first zero split = split
 copied readings first (suc n) split =
     slice_set (copied readings first n split) (first + n) (Some (slice_index_or readings (first + n) no_reading).kwh)
 
+-- an issue was accepted
+abbrev pub is_issue : Result Accepted Fault → Bool
+is_issue (Ok Done) = false
+is_issue (Ok (Scheduled notice)) = false
+is_issue (Ok (Issued lines)) = true
+is_issue (Err fault) = false
+
 -- an accepted issue of a day notes the kWh that it split
-unfoldable pub noted : Outcome → ℕ → Run → Run
-noted Done day s = s
-noted (Scheduled notice) day s = s
-noted (Issued lines) day s =
-    run_of s.terms s.quiet s.state (copied s.state.readings (day * slots_of_day) periods s.split) s.calls s.sized s.draft s.text
-noted (Refused fault) day s = s
+unfoldable pub noted : Result Accepted Fault → ℕ → Run → Run
+noted came day s =
+    cond (is_issue came) (run_of s.terms s.quiet s.state (copied s.state.readings (day * slots_of_day) periods s.split) s.calls s.sized s.draft s.text) s
 
 -- an issue
 unfoldable pub issued_day : ℕ → ℕ → Run → Run
@@ -173,56 +182,37 @@ tables_put number holders rows journal s =
     cond (s.calls == 0 && not s.sized) (tables_of holders rows journal s) (slipped number TablesLate s)
 
 -- lines that do not end a schedule
-abbrev pub within : Entry → Bool
-within entry.Blank = true
-within (entry.Terms places days capacity) = false
-within (entry.Tables holders rows journal) = false
-within (entry.Register place day supplier) = false
-within (entry.Schedule sender day moment) = false
-within (entry.Row from to row) = true
-within (entry.Reading day period quality kwh) = false
-within (entry.Readings day quality figures count) = false
-within (entry.End sender day moment) = false
-within (entry.Issue day run) = false
-within (entry.Volume day period place) = false
-within (entry.Statement first count) = false
-within (entry.FaultyRow slip) = true
-within (entry.Faulty slip) = false
+abbrev pub within : Result (Option Entry) Faulty → Bool
+within (Ok None) = true
+within (Ok (Some (entry.Terms places days capacity))) = false
+within (Ok (Some (entry.Tables holders rows journal))) = false
+within (Ok (Some (entry.Schedule sender day moment))) = false
+within (Ok (Some (entry.Row from to row))) = true
+within (Ok (Some (entry.Ask r))) = false
+within (Err (faulty.Row slip)) = true
+within (Err (faulty.Line slip)) = false
 
--- what a line that is a call does; any other does nothing here
-abbrev pub asked : Entry → Run → Run
-asked entry.Blank s = s
-asked (entry.Terms places days capacity) s = s
-asked (entry.Tables holders rows journal) s = s
-asked (entry.Register place day supplier) s = called (call.Register place day supplier) s
-asked (entry.Schedule sender day moment) s = s
-asked (entry.Row from to row) s = s
-asked (entry.Reading day period quality kwh) s = called (call.Reading day period quality kwh) s
-asked (entry.Readings day quality figures count) s = read_all day quality figures count s
-asked (entry.End sender day moment) s = called (call.End sender day moment) s
-asked (entry.Issue day run) s = issued_day day run s
-asked (entry.Volume day period place) s = volume_asked day period place s
-asked (entry.Statement first count) s = statement_asked first count s
-asked (entry.FaultyRow slip) s = s
-asked (entry.Faulty slip) s = s
+-- a call, or a question
+abbrev pub asked : Request → Run → Run
+asked (request.Register place day supplier) s = called (call.Register place day supplier) s
+asked (request.Reading day period quality kwh) s = called (call.Reading day period quality kwh) s
+asked (request.Readings day quality figures) s = read_all day quality figures.items (length figures.items) s
+asked (request.End sender day moment) s = called (call.End sender day moment) s
+asked (request.Issue day run) s = issued_day day run s
+asked (request.Volume day period place) s = volume_asked day period place s
+asked (request.Statement first count) s = statement_asked first count s
 
 -- what the line `number` does, once the schedule before it has been called
-abbrev pub entered : ℕ → Entry → Run → Run
-entered number entry.Blank s = s
-entered number (entry.Terms places days capacity) s = slipped number TermsAgain s
-entered number (entry.Tables holders rows journal) s = tables_put number holders rows journal s
-entered number (entry.Register place day supplier) s = asked (entry.Register place day supplier) s
-entered number (entry.Schedule sender day moment) s = drafted sender day moment s
-entered number (entry.Row from to row) s = row_put number s.draft from to row s
-entered number (entry.Reading day period quality kwh) s = asked (entry.Reading day period quality kwh) s
-entered number (entry.Readings day quality figures count) s = asked (entry.Readings day quality figures count) s
-entered number (entry.End sender day moment) s = asked (entry.End sender day moment) s
-entered number (entry.Issue day run) s = asked (entry.Issue day run) s
-entered number (entry.Volume day period place) s = asked (entry.Volume day period place) s
-entered number (entry.Statement first count) s = asked (entry.Statement first count) s
-entered number (entry.FaultyRow slip) s = row_faulty number s.draft slip s
-entered number (entry.Faulty slip) s = slipped number slip s
+abbrev pub entered : ℕ → Result (Option Entry) Faulty → Run → Run
+entered number (Ok None) s = s
+entered number (Ok (Some (entry.Terms places days capacity))) s = slipped number TermsAgain s
+entered number (Ok (Some (entry.Tables holders rows journal))) s = tables_put number holders rows journal s
+entered number (Ok (Some (entry.Schedule sender day moment))) s = drafted sender day moment s
+entered number (Ok (Some (entry.Row from to row))) s = row_put number s.draft from to row s
+entered number (Ok (Some (entry.Ask r))) s = asked r s
+entered number (Err (faulty.Row slip)) s = row_faulty number s.draft slip s
+entered number (Err (faulty.Line slip)) s = slipped number slip s
 
 -- what the line `number` does
-unfoldable pub line_done : ℕ → Entry → Run → Run
-line_done number e s = entered number e (cond (within e) s (closed s))
+unfoldable pub line_done : ℕ → Result (Option Entry) Faulty → Run → Run
+line_done number said s = entered number said (cond (within said) s (closed s))

@@ -1,9 +1,9 @@
 -- What is printed of a season, from its first line to its last.
-use Rattle.std.specs.Prelude.{ℕ, ◌+◌, min, max, Bool, false, List, [], ◌∷◌, ◌++◌, take, replicate, Some, None, codes, decimal, Option}
+use Rattle.std.specs.Prelude.{ℕ, ◌+◌, min, max, Bool, false, List, [], ◌∷◌, ◌++◌, take, replicate, Some, None, Ok, Err, codes, Option, Result}
 use Rattle.std.proofs.Common.{arith}
 use Rattle.domain.specs.Checks.{no_reading, no_volume}
 use Rattle.domain.specs.Limits.{fewest_places, most_places, most_days, most_capacity}
-use Rattle.domain.specs.Refusals.{refused}
+use Rattle.domain.specs.Texts.{refusal_text}
 use Rattle.domain.specs.Slots.{reading_slots, issued_slots}
 use Rattle.domain.specs.Termed.{terms_fault}
 use Rattle.domain.specs.declared.Fault.{Fault}
@@ -15,6 +15,8 @@ use Rattle.text.specs.Words.{words_of, lines_of, uncommented}
 use Rattle.seasonlines.specs.Entries.{entry_of}
 use Rattle.seasonlines.specs.declared.Entry.{Entry}
 use Rattle.seasonlines.specs.declared.Entry.TheVariants as entry
+use Rattle.seasonlines.specs.declared.Faulty.{Faulty}
+use Rattle.seasonlines.specs.declared.Faulty.TheVariants as faulty
 use Rattle.seasonlines.specs.declared.Slip.TheVariants.{RowOutside, BeforeTerms}
 use Rattle.seasonlines.specs.declared.Slip.{Slip}
 use Rattle.seasontext.specs.Blanks.{no_holder, no_dated_row, no_line}
@@ -23,7 +25,7 @@ use Rattle.seasontext.specs.Sums.{tables_text}
 use Rattle.seasontext.specs.Texts.{slip_line}
 
 -- what a line says
-abbrev pub entry_in : List ℕ → Entry
+abbrev pub entry_in : List ℕ → Result (Option Entry) Faulty
 entry_in line = entry_of (words_of (uncommented line))
 
 -- the lines one after the other, of which the first is the line `number`
@@ -59,8 +61,7 @@ terms_of places days capacity = record {
 
 -- terms that are refused end the season
 abbrev pub terms_refused : Fault → List ℕ
-terms_refused fault =
-    codes "terms refused " ++ (decimal (refused fault).0 ++ (codes " " ++ (decimal (refused fault).1 ++ codes "\n")))
+terms_refused fault = codes "terms " ++ (refusal_text fault ++ codes "\n")
 
 -- what is printed once terms were given, before the line `number` and those after it
 unfoldable pub opened_by : Option Fault → Bool → ℕ → List ℕ → ℕ → ℕ → ℕ → List (List ℕ) → List ℕ
@@ -73,52 +74,44 @@ opened_at quiet number text places days capacity lines =
     opened_by (terms_fault places days capacity) quiet number text places days capacity lines
 
 -- what is wrong with a line before terms were given, if it says anything
-abbrev pub slip_before : Entry → Option Slip
-slip_before entry.Blank = None
-slip_before (entry.Terms places days capacity) = None
-slip_before (entry.Tables holders rows journal) = Some BeforeTerms
-slip_before (entry.Register place day supplier) = Some BeforeTerms
-slip_before (entry.Schedule sender day moment) = Some BeforeTerms
-slip_before (entry.Row from to row) = Some RowOutside
-slip_before (entry.Reading day period quality kwh) = Some BeforeTerms
-slip_before (entry.Readings day quality figures count) = Some BeforeTerms
-slip_before (entry.End sender day moment) = Some BeforeTerms
-slip_before (entry.Issue day run) = Some BeforeTerms
-slip_before (entry.Volume day period place) = Some BeforeTerms
-slip_before (entry.Statement first count) = Some BeforeTerms
-slip_before (entry.FaultyRow slip) = Some RowOutside
-slip_before (entry.Faulty slip) = Some slip
+abbrev pub slip_before : Result (Option Entry) Faulty → Option Slip
+slip_before (Ok None) = None
+slip_before (Ok (Some (entry.Terms places days capacity))) = None
+slip_before (Ok (Some (entry.Tables holders rows journal))) = Some BeforeTerms
+slip_before (Ok (Some (entry.Schedule sender day moment))) = Some BeforeTerms
+slip_before (Ok (Some (entry.Row from to row))) = Some RowOutside
+slip_before (Ok (Some (entry.Ask request))) = Some BeforeTerms
+slip_before (Err (faulty.Row slip)) = Some RowOutside
+slip_before (Err (faulty.Line slip)) = Some slip
 
 -- what is said of it, if it is the line `number`
 abbrev pub slip_text_if : ℕ → Option Slip → List ℕ
 slip_text_if number None = []
 slip_text_if number (Some slip) = slip_line number slip
 
-abbrev pub before_text : ℕ → Entry → List ℕ
-before_text number e = slip_text_if number (slip_before e)
+abbrev pub before_text : ℕ → Result (Option Entry) Faulty → List ℕ
+before_text number said = slip_text_if number (slip_before said)
 
--- one thing where a line gives terms, and another where it does not
-abbrev pub terms_or : Entry → (ℕ → ℕ → ℕ → List ℕ) → List ℕ → List ℕ
-terms_or entry.Blank given other = other
-terms_or (entry.Terms places days capacity) given other = given places days capacity
-terms_or (entry.Tables holders rows journal) given other = other
-terms_or (entry.Register place day supplier) given other = other
-terms_or (entry.Schedule sender day moment) given other = other
-terms_or (entry.Row from to row) given other = other
-terms_or (entry.Reading day period quality kwh) given other = other
-terms_or (entry.Readings day quality figures count) given other = other
-terms_or (entry.End sender day moment) given other = other
-terms_or (entry.Issue day run) given other = other
-terms_or (entry.Volume day period place) given other = other
-terms_or (entry.Statement first count) given other = other
-terms_or (entry.FaultyRow slip) given other = other
-terms_or (entry.Faulty slip) given other = other
+-- the numbers of a line that gives terms
+abbrev pub terms_in : Result (Option Entry) Faulty → Option (ℕ × ℕ × ℕ)
+terms_in (Ok None) = None
+terms_in (Ok (Some (entry.Terms places days capacity))) = Some (places, days, capacity)
+terms_in (Ok (Some (entry.Tables holders rows journal))) = None
+terms_in (Ok (Some (entry.Schedule sender day moment))) = None
+terms_in (Ok (Some (entry.Row from to row))) = None
+terms_in (Ok (Some (entry.Ask request))) = None
+terms_in (Err fault) = None
+
+-- one thing where terms are given, and another where they are not
+abbrev pub terms_or : Option (ℕ × ℕ × ℕ) → (ℕ → ℕ → ℕ → List ℕ) → List ℕ → List ℕ
+terms_or None given other = other
+terms_or (Some t) given other = given t.0 t.1 t.2
 
 -- what is printed of lines, the first of which is the line `number`, after this text and before terms were given
 unfoldable pub until_terms : Bool → ℕ → List ℕ → List (List ℕ) → List ℕ
 until_terms quiet number text [] = text ++ tables_text [] []
 until_terms quiet number text (l ∷ ls) =
-    terms_or (entry_in l) (λ places days capacity. opened_at quiet (number + 1) text places days capacity ls) (until_terms quiet (number + 1) (text ++ before_text number (entry_in l)) ls)
+    terms_or (terms_in (entry_in l)) (λ places days capacity. opened_at quiet (number + 1) text places days capacity ls) (until_terms quiet (number + 1) (text ++ before_text number (entry_in l)) ls)
 
 -- what is printed of a season
 abbrev pub season_text : Bool → List ℕ → List ℕ

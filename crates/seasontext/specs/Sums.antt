@@ -1,13 +1,12 @@
 -- The two tables at the end of a season: what was split beside what was sent, and what each supplier was sent.
-use Rattle.std.specs.Prelude.{ℕ, ◌+◌, Bool, true, false, cond, ◌||◌, List, [], ◌∷◌, ◌++◌, ℤ, pos, Some, None, codes, decimal, fold, Option, ◌==◌, int_lt, slice_index_or, slice_set}
+use Rattle.std.specs.Prelude.{◌≡◌, ℕ, ◌+◌, Bool, cond, ◌||◌, List, [], ◌∷◌, ◌++◌, ℤ, pos, Some, None, codes, decimal, Option, ◌==◌, int_lt, slice_index_or}
 use Rattle.std.specs.Fmt.{signed_decimal}
+use Rattle.std.specs.List.{list_any}
 use Rattle.domain.specs.Limits.{periods, most_days}
 use Rattle.domain.specs.Lines.{gathered}
 use Rattle.domain.specs.Slots.{reading_slot}
 use Rattle.domain.specs.declared.Line.{Line}
 use Rattle.season.specs.Law.{sum_of, of_period}
-use Rattle.seasontext.specs.declared.sums.Pick.{Pick}
-use Rattle.seasontext.specs.declared.sums.Pick.TheVariants.{OfPeriod, OfSupplier}
 
 -- numbers that a supplier may have
 abbrev pub suppliers : ℕ
@@ -17,10 +16,9 @@ suppliers = 65536
 abbrev pub to_supplier : ℕ → Line → Bool
 to_supplier supplier l = l.supplier == supplier
 
--- the lines that a sum picks
-abbrev pub picked : Pick → Line → Bool
-picked (OfPeriod day period) l = of_period day period l
-picked (OfSupplier supplier) l = to_supplier supplier l
+-- what a test answers of a line is what `p` says of it
+abbrev pub Tells : (Line → Bool → Type 0) → (Line → Bool) → Type 0
+Tells answers p = (l : Line) (b : Bool) → answers l b → b ≡ p l
 
 -- the kWh that were split, and the sum of what was sent, are the same
 abbrev pub agree_text : ℤ → ℤ → List ℕ
@@ -42,22 +40,21 @@ abbrev pub period_table : List Line → List (Option ℕ) → List ℕ
 period_table lines split = gathered (day_text lines split) most_days
 
 -- a line was sent to the supplier
-unfoldable pub sent_to : ℕ → List Line → Bool
-sent_to supplier [] = false
-sent_to supplier (l ∷ ls) = to_supplier supplier l || sent_to supplier ls
+abbrev pub sent_to : ℕ → List Line → Bool
+sent_to supplier lines = list_any (to_supplier supplier) lines
 
--- flags, with those of the lines' suppliers set
-abbrev pub marked : List Bool → List Line → List Bool
-marked flags lines = fold (λ fs l. slice_set fs l.supplier true) flags lines
+-- the suppliers that were sent a line, in order
+abbrev pub suppliers_sent : List Line → List ℕ
+suppliers_sent lines = gathered (λ supplier. cond (sent_to supplier lines) (supplier ∷ []) []) suppliers
 
--- a row of the second table, if a line was sent
-abbrev pub supplier_text : List Line → ℕ → Bool → List ℕ
-supplier_text lines supplier sent =
-    cond sent (decimal supplier ++ (codes " " ++ (signed_decimal (sum_of (to_supplier supplier) lines) ++ codes "\n"))) []
+-- a supplier's row of the second table
+abbrev pub supplier_text : List Line → ℕ → List ℕ
+supplier_text lines supplier =
+    decimal supplier ++ (codes " " ++ (signed_decimal (sum_of (to_supplier supplier) lines) ++ codes "\n"))
 
 -- the second table: each supplier that was sent a line, in order
 abbrev pub supplier_table : List Line → List ℕ
-supplier_table lines = gathered (λ supplier. supplier_text lines supplier (sent_to supplier lines)) suppliers
+supplier_table lines = gathered (λ supplier. cond (sent_to supplier lines) (supplier_text lines supplier) []) suppliers
 
 -- what the two tables begin with
 abbrev pub first_heading : List ℕ

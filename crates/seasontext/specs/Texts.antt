@@ -1,13 +1,12 @@
 -- What is printed of a call, behind its number, and of a line that is no call.
 use Rattle.std.specs.Prelude.{ℕ, ◌+◌, ◌/◌, ◌%◌, Bool, cond, ◌&&◌, List, [], ◌∷◌, ◌++◌, take, Some, None, Ok, Err, codes, decimal, Option, Result, nat_lt}
-use Rattle.std.specs.Fmt.{signed_decimal}
 use Rattle.std.specs.List.{flat_map}
-use Rattle.domain.specs.Refusals.{refused}
+use Rattle.domain.specs.Texts.{refusal_text, line_text}
 use Rattle.domain.specs.declared.Fault.{Fault}
 use Rattle.domain.specs.declared.Line.{Line}
 use Rattle.book.specs.Statements.{lines_from}
-use Rattle.season.specs.declared.Outcome.{Outcome}
-use Rattle.season.specs.declared.Outcome.TheVariants.{Done, Scheduled, Issued, Refused}
+use Rattle.season.specs.declared.Accepted.{Accepted}
+use Rattle.season.specs.declared.Accepted.TheVariants.{Done, Scheduled, Issued}
 use Rattle.seasonlines.specs.Slips.{slip_text}
 use Rattle.seasonlines.specs.declared.Slip.{Slip}
 
@@ -29,25 +28,19 @@ bytes_text number bs = decimal number ++ (codes " ok " ++ (hex bs ++ codes "\n")
 
 -- it was refused: the refusal's number and spot
 abbrev pub refused_text : ℕ → Fault → List ℕ
-refused_text number fault =
-    decimal number ++ (codes " refused " ++ (decimal (refused fault).0 ++ (codes " " ++ (decimal (refused fault).1 ++ codes "\n"))))
-
--- the numbers of a line
-abbrev pub numbers_text : Line → List ℕ
-numbers_text l =
-    decimal l.day ++ (codes " " ++ (decimal l.period ++ (codes " " ++ (decimal l.place ++ (codes " " ++ (decimal l.supplier ++ (codes " " ++ (decimal l.run ++ (codes " " ++ (signed_decimal l.volume ++ codes "\n"))))))))))
+refused_text number fault = decimal number ++ (codes " " ++ (refusal_text fault ++ codes "\n"))
 
 -- a line that an issue sent
 abbrev pub sent_text : Line → List ℕ
-sent_text l = codes "  " ++ numbers_text l
+sent_text l = codes "  " ++ (line_text l ++ codes "\n")
 
 -- the call `number` and what came of it; an issue's lines are those of the journal from `first` on
-abbrev pub outcome_text : ℕ → List Line → ℕ → Outcome → List ℕ
-outcome_text number journal first Done = decimal number ++ codes " ok\n"
-outcome_text number journal first (Scheduled notice) = bytes_text number notice
-outcome_text number journal first (Issued lines) =
+abbrev pub outcome_text : ℕ → List Line → ℕ → Result Accepted Fault → List ℕ
+outcome_text number journal first (Ok Done) = decimal number ++ codes " ok\n"
+outcome_text number journal first (Ok (Scheduled notice)) = bytes_text number notice
+outcome_text number journal first (Ok (Issued lines)) =
     decimal number ++ (codes " ok " ++ (decimal lines ++ (codes "\n" ++ flat_map sent_text (lines_from journal first lines))))
-outcome_text number journal first (Refused fault) = refused_text number fault
+outcome_text number journal first (Err fault) = refused_text number fault
 
 -- the answer to the question after a volume: kWh and virtual kWh, or none
 abbrev pub volume_text : ℕ → Result (Option (ℕ × ℕ)) Fault → List ℕ

@@ -1,54 +1,31 @@
 // The desk at which a season is run: its book and tables, and what has been printed.
-ghost use Rattle.std.specs.Prelude.{◌≡◌, ◌+◌, ◌-◌, ◌^◌, ◌<◌, not, ◌&&◌, is_ok, IfOk, if◌then◌else◌, Some, OnOk, ◌==◌, slice_index, slice_index_or};
+ghost use Rattle.std.specs.Prelude.{◌≡◌, ◌+◌, ◌-◌, ◌^◌, ◌<◌, not, ◌&&◌, is_ok, IfOk, if◌then◌else◌, Some, OnOk, ◌==◌, length, slice_index_or};
+ghost use Rattle.rules.specs.House.{house};
 ghost use Rattle.domain.specs.Checks.{no_reading};
 ghost use Rattle.domain.specs.Limits.{periods};
-ghost use Rattle.season.specs.Outcomes.{accepted};
-ghost use Rattle.season.specs.declared.Call.TheVariants.{Issue};
-ghost use Rattle.seasontext.specs.Runs.{slipped, answered, told, stepped, came_of, called, copied, noted, issued_day, volume_asked, statement_asked, read_all, closed, drafted, rows_with, rowed, row_put, row_faulty, tables_of, tables_put, within, asked, entered, line_done, counted};
+ghost use Rattle.book.specs.Kept.{kept};
+ghost use Rattle.season.specs.Outcomes.{outcome, state_of};
+ghost use Rattle.season.specs.Steps.{step};
+ghost use Rattle.season.specs.declared.Call.TheVariants as call;
+ghost use Rattle.seasontext.specs.Runs.{slipped, answered, told, stepped, came_of, called, copied, is_issue, noted, issued_day, volume_asked, statement_asked, read_all, closed, drafted, rows_with, row_put, row_faulty, tables_of, tables_put, within, asked, entered, line_done, counted};
 ghost use Rattle.seasontext.specs.Seen.{seen};
 ghost use Rattle.seasontext.specs.Texts.{buffer_text};
 
-use crate::calls::{end_call, issue_call, reading_call, register_call};
 use crate::memory::{NoMemory, following};
 use crate::texts::{put_outcome, put_slip, put_statement, put_volume};
 use book::Book;
 use domain::{AllocationRow, Fault, Line, PERIODS, Reading, Slot};
 use history::Dated;
 use rules::House;
-use season::{Call, Outcome, apply};
-use seasonlines::{Entry, Slip};
+use season::{Accepted, Call, Outcome, Tables, apply};
+use seasonlines::{Entry, Faulty, Request, Slip};
 use std::alloc::Global;
 
 // The bytes of a statement of as many lines as one may have.
 const STATEMENT_BYTES: usize = 45_064;
 
-// Entries of blank tables, which no call reads.
-pub(crate) const NO_HOLDER: Dated<u16> = Dated {
-    subject: 0,
-    day: 0,
-    entry: 0,
-};
-
-const NO_ROW: AllocationRow = AllocationRow {
-    method: 0,
-    balance: 0,
-    nominations: [0; 8],
-};
-
-pub(crate) const NO_DATED_ROW: Dated<AllocationRow> = Dated {
-    subject: 0,
-    day: 0,
-    entry: NO_ROW,
-};
-
-pub(crate) const NO_LINE: Line = Line {
-    day: 0,
-    period: 0,
-    place: 0,
-    supplier: 0,
-    run: 0,
-    volume: 0,
-};
+// What a line of the input says, if it says anything.
+pub(crate) type Said = Result<Option<Entry>, Faulty>;
 
 // A schedule whose rows have not ended.
 #[derive(Clone, Copy)]
@@ -61,6 +38,7 @@ pub(crate) struct Draft {
 
 #[derive(Drop)]
 pub(crate) struct Desk {
+    pub(crate) heap: Global,
     pub(crate) book: Book<House>,
     pub(crate) holders: Vec<Dated<u16>>,
     pub(crate) rows: Vec<Dated<AllocationRow>>,
@@ -83,7 +61,7 @@ impl Desk {
         ensures answer { result ≡ came_of call.entry (seen self.old) }
         ensures after { seen self.new ≡ stepped call.entry (seen self.old) }
     {
-        apply(
+        apply_to(
             &mut self.book,
             self.holders.as_mut_slice(),
             self.rows.as_mut_slice(),
@@ -115,16 +93,12 @@ impl Desk {
         ensures { OnOk result (seen self.new ≡ told first outcome (seen self.old)) }
     {
         let number = self.count()?;
-        if self.is_silent(is_accepted(outcome)) {
+        if self.is_silent(outcome.is_ok()) {
             return Ok(());
         }
-        put_outcome(
-            &mut self.text,
-            number,
-            self.journal.as_slice(),
-            first,
-            outcome,
-        )
+        let journal = self.journal.as_slice();
+        put_outcome(&mut self.text, number, journal, first, outcome)?;
+        Ok(())
     }
 
     // Makes a call.
@@ -141,7 +115,7 @@ impl Desk {
         ensures { OnOk result (seen self.new ≡ issued_day day run (seen self.old)) }
     {
         let first = self.book.lines();
-        let outcome = self.step(issue_call(day, run));
+        let outcome = self.step(Call::Issue { day, run });
         self.note(outcome, day);
         self.tell(first, outcome)
     }
@@ -149,7 +123,7 @@ impl Desk {
     fn note(&mut self, outcome: Outcome, day: u16)
         ensures { seen self.new ≡ noted outcome day (seen self.old) }
     {
-        if let Outcome::Issued { .. } = outcome {
+        if is_issue(outcome) {
             copy_kwh(
                 self.readings.as_slice(),
                 self.split.as_mut_slice(),
@@ -166,13 +140,14 @@ impl Desk {
         if self.is_silent(answer.is_ok()) {
             return Ok(());
         }
-        put_volume(&mut self.text, number, answer)
+        put_volume(&mut self.text, number, answer)?;
+        Ok(())
     }
 
-    fn statement(&mut self, heap: Global, first: u64, count: u64) -> Result<(), NoMemory>
+    fn statement(&mut self, first: u64, count: u64) -> Result<(), NoMemory>
         ensures { OnOk result (seen self.new ≡ statement_asked first count (seen self.old)) }
     {
-        let mut file = vec![in heap; 0u8; STATEMENT_BYTES]?;
+        let mut file = vec![in self.heap; 0u8; STATEMENT_BYTES]?;
         let answer = self.book.statement(
             self.journal.as_slice(),
             first as usize,
@@ -194,22 +169,29 @@ impl Desk {
         if self.is_silent(answer.is_ok()) {
             return Ok(());
         }
-        put_statement(&mut self.text, number, buffer, answer)
+        put_statement(&mut self.text, number, buffer, answer)?;
+        Ok(())
     }
 
-    // Reads the figures of the periods 1 to `count`.
-    fn readings(
-        &mut self,
-        day: u16,
-        quality: u8,
-        figures: &[u32],
-        count: u8,
-    ) -> Result<(), NoMemory>
-        ensures { OnOk result (seen self.new ≡ read_all day quality figures.now count (seen self.old)) }
+    // Reads the figure of a period.
+    fn reading(&mut self, day: u16, period: u8, quality: u8, kwh: u32) -> Result<(), NoMemory>
+        ensures { OnOk result (seen self.new ≡ called (call.Reading day period quality kwh) (seen self.old)) }
     {
-        for index in 0..count {
-            let kwh = figure_at(figures, usize::from(index));
-            self.call(reading_call(day, index + 1, quality, kwh))?;
+        self.call(Call::Reading {
+            day,
+            period,
+            quality,
+            kwh,
+        })
+    }
+
+    // Reads the figures of the periods from 1 on.
+    fn readings(&mut self, day: u16, quality: u8, figures: &[u32]) -> Result<(), NoMemory>
+        requires { length figures.now < 2 ^ 8 }
+        ensures { OnOk result (seen self.new ≡ read_all day quality figures.now (length figures.now) (seen self.old)) }
+    {
+        for (index, &kwh) in figures.iter().enumerate() {
+            self.reading(day, index as u8 + 1, quality, kwh)?;
         }
         Ok(())
     }
@@ -218,17 +200,15 @@ impl Desk {
     pub(crate) fn close(&mut self) -> Result<(), NoMemory>
         ensures { OnOk result (seen self.new ≡ closed (seen self.old)) }
     {
-        let Some(draft) = self.draft else {
+        let Some(draft) = self.draft.take() else {
             return Ok(());
         };
-        self.draft = None;
-        let call = Call::Schedule {
+        self.call(Call::Schedule {
             sender: draft.sender,
             day: draft.day,
             moment: draft.moment,
             rows: &draft.rows,
-        };
-        self.call(call)
+        })
     }
 
     // Opens a schedule that has no rows yet.
@@ -239,29 +219,32 @@ impl Desk {
             sender,
             day,
             moment,
-            rows: [NO_ROW; 48],
+            rows: [AllocationRow::NONE; 48],
         });
     }
 
     fn slip(&mut self, number: u64, slip: Slip) -> Result<(), NoMemory>
         ensures { OnOk result (seen self.new ≡ slipped number slip (seen self.old)) }
     {
-        put_slip(&mut self.text, number, slip)
+        put_slip(&mut self.text, number, slip)?;
+        Ok(())
     }
 
     // Puts a row into the open schedule.
     fn row(&mut self, number: u64, from: u8, to: u8, row: AllocationRow) -> Result<(), NoMemory>
-        ensures { OnOk result (seen self.new ≡ row_put number self.old.draft from to row (seen self.old)) }
+        ensures { OnOk result (seen self.new ≡ row_put number (seen self.old).draft from to row (seen self.old)) }
     {
-        let Some(draft) = self.draft else {
+        // copied and stored back: of rows that are written where they stand, a proof knows nothing
+        let Some(mut draft) = self.draft else {
             return self.slip(number, Slip::RowOutside);
         };
-        self.draft = Some(with_row(draft, from, to, row));
+        put_rows(&mut draft.rows, from, to, row);
+        self.draft = Some(draft);
         Ok(())
     }
 
     fn faulty_row(&mut self, number: u64, slip: Slip) -> Result<(), NoMemory>
-        ensures { OnOk result (seen self.new ≡ row_faulty number self.old.draft slip (seen self.old)) }
+        ensures { OnOk result (seen self.new ≡ row_faulty number (seen self.old).draft slip (seen self.old)) }
     {
         match self.draft {
             Some(_) => self.slip(number, slip),
@@ -277,46 +260,40 @@ impl Desk {
     }
 
     // Gives tables 1, 2 and 5 their sizes, once and before the first call.
-    fn tables(
-        &mut self,
-        heap: Global,
-        number: u64,
-        holders: u64,
-        rows: u64,
-        journal: u64,
-    ) -> Result<(), NoMemory>
+    fn tables(&mut self, number: u64, holders: u64, rows: u64, journal: u64) -> Result<(), NoMemory>
         ensures { OnOk result (seen self.new ≡ tables_put number holders rows journal (seen self.old)) }
     {
         if self.is_fresh() {
-            self.size(heap, holders, rows, journal)
+            self.size(holders, rows, journal)
         } else {
             self.slip(number, Slip::TablesLate)
         }
     }
 
-    fn size(&mut self, heap: Global, holders: u64, rows: u64, journal: u64) -> Result<(), NoMemory>
+    fn size(&mut self, holders: u64, rows: u64, journal: u64) -> Result<(), NoMemory>
         ensures { OnOk result (seen self.new ≡ tables_of holders rows journal (seen self.old)) }
     {
-        self.holders = vec![in heap; NO_HOLDER; holders as usize]?;
-        self.rows = vec![in heap; NO_DATED_ROW; rows as usize]?;
-        self.journal = vec![in heap; NO_LINE; journal as usize]?;
+        let heap = self.heap;
+        self.holders = vec![in heap; Dated::blank(0); holders as usize]?;
+        self.rows = vec![in heap; Dated::blank(AllocationRow::NONE); rows as usize]?;
+        self.journal = vec![in heap; Line::NONE; journal as usize]?;
         self.sized = true;
         Ok(())
     }
 
-    // What a line does.
-    pub(crate) fn line(&mut self, heap: Global, number: u64, entry: Entry) -> Result<(), NoMemory>
-        ensures { OnOk result (seen self.new ≡ line_done number entry (seen self.old)) }
+    // What the line `number` does.
+    pub(crate) fn line(&mut self, number: u64, said: Said) -> Result<(), NoMemory>
+        ensures { OnOk result (seen self.new ≡ line_done number said (seen self.old)) }
     {
-        self.settle(entry)?;
-        self.enter(heap, number, entry)
+        self.settle(&said)?;
+        self.enter(number, said)
     }
 
     // Calls the open schedule where a line ends it.
-    fn settle(&mut self, entry: Entry) -> Result<(), NoMemory>
-        ensures { OnOk result (seen self.new ≡ (if within entry then seen self.old else closed (seen self.old))) }
+    fn settle(&mut self, said: &Said) -> Result<(), NoMemory>
+        ensures { OnOk result (seen self.new ≡ (if within said.now then seen self.old else closed (seen self.old))) }
     {
-        if is_within(entry) {
+        if is_within(said) {
             Ok(())
         } else {
             self.close()
@@ -324,138 +301,138 @@ impl Desk {
     }
 
     // What a line does, once the schedule before it has been called.
-    fn enter(&mut self, heap: Global, number: u64, entry: Entry) -> Result<(), NoMemory>
-        ensures { OnOk result (seen self.new ≡ entered number entry (seen self.old)) }
+    fn enter(&mut self, number: u64, said: Said) -> Result<(), NoMemory>
+        ensures { OnOk result (seen self.new ≡ entered number said (seen self.old)) }
     {
-        match entry {
-            Entry::Blank => Ok(()),
-            Entry::Terms { .. } => self.slip(number, Slip::TermsAgain),
-            Entry::Tables {
-                holders,
-                rows,
-                journal,
-            } => self.tables(heap, number, holders, rows, journal),
-            Entry::Schedule {
-                sender,
-                day,
-                moment,
-            } => {
+        match said {
+            Ok(None) => Ok(()),
+            Ok(Some(Entry::Terms { .. })) => self.slip(number, Slip::TermsAgain),
+            Ok(
+                Some(
+                    Entry::Tables {
+                        holders,
+                        rows,
+                        journal,
+                    },
+                ),
+            ) => self.tables(number, holders, rows, journal),
+            Ok(
+                Some(
+                    Entry::Schedule {
+                        sender,
+                        day,
+                        moment,
+                    },
+                ),
+            ) => {
                 self.draft(sender, day, moment);
                 Ok(())
             }
-            Entry::Row { from, to, row } => self.row(number, from, to, row),
-            Entry::FaultyRow(slip) => self.faulty_row(number, slip),
-            Entry::Faulty(slip) => self.slip(number, slip),
-            _ => self.ask(heap, entry),
+            Ok(Some(Entry::Row { from, to, row })) => self.row(number, from, to, row),
+            Ok(Some(Entry::Ask(request))) => self.ask(request),
+            Err(Faulty::Row(slip)) => self.faulty_row(number, slip),
+            Err(Faulty::Line(slip)) => self.slip(number, slip),
         }
     }
 
-    // What a line does that is a call.
-    fn ask(&mut self, heap: Global, entry: Entry) -> Result<(), NoMemory>
-        ensures { OnOk result (seen self.new ≡ asked entry (seen self.old)) }
+    // Makes a call, or asks a question.
+    fn ask(&mut self, request: Request) -> Result<(), NoMemory>
+        ensures { OnOk result (seen self.new ≡ asked request (seen self.old)) }
     {
-        match entry {
-            Entry::Register {
+        match request {
+            Request::Register {
                 place,
                 day,
                 supplier,
-            } => self.call(register_call(place, day, supplier)),
-            Entry::Reading {
+            } => self.call(Call::Register {
+                place,
+                day,
+                supplier,
+            }),
+            Request::Reading {
                 day,
                 period,
                 quality,
                 kwh,
-            } => self.call(reading_call(day, period, quality, kwh)),
-            Entry::Readings {
+            } => self.reading(day, period, quality, kwh),
+            Request::Readings {
                 day,
                 quality,
                 figures,
-                count,
-            } => self.readings(day, quality, &figures, count),
-            Entry::End {
+            } => self.readings(day, quality, figures.as_slice()),
+            Request::End {
                 sender,
                 day,
                 moment,
-            } => self.call(end_call(sender, day, moment)),
-            Entry::Issue { day, run } => self.issue(day, run),
-            Entry::Volume { day, period, place } => self.volume(day, period, place),
-            Entry::Statement { first, count } => self.statement(heap, first, count),
-            _ => Ok(()),
+            } => self.call(Call::End {
+                sender,
+                day,
+                moment,
+            }),
+            Request::Issue { day, run } => self.issue(day, run),
+            Request::Volume { day, period, place } => self.volume(day, period, place),
+            Request::Statement { first, count } => self.statement(first, count),
         }
     }
 }
 
-fn is_accepted(outcome: Outcome) -> bool
-    ensures { result ≡ accepted outcome }
+// Does what a call says on a book and its tables. It is a function of its own since a struct made of vectors' slices loses, in a proof, what the vectors hold.
+fn apply_to(
+    book: &mut Book<House>,
+    holders: &mut [Dated<u16>],
+    rows: &mut [Dated<AllocationRow>],
+    readings: &mut [Reading],
+    issued: &mut [Slot],
+    journal: &mut [Line],
+    call: &Call<'_>,
+) -> Outcome
+    ensures answer { result ≡ outcome book.old.terms house (state_of (kept book.old) holders.old rows.old readings.old issued.old journal.old) call.now }
+    ensures after { state_of (kept book.new) holders.new rows.new readings.new issued.new journal.new ≡ step book.old.terms house (state_of (kept book.old) holders.old rows.old readings.old issued.old journal.old) call.now }
+    ensures same { book.new.terms ≡ book.old.terms }
 {
-    match outcome {
-        Outcome::Done | Outcome::Scheduled { .. } | Outcome::Issued { .. } => true,
-        Outcome::Refused { .. } => false,
-    }
+    let mut tables = Tables {
+        holders,
+        rows,
+        readings,
+        issued,
+        journal,
+    };
+    apply(book, &mut tables, call)
+}
+
+// Whether an issue was accepted.
+fn is_issue(outcome: Outcome) -> bool
+    ensures { result ≡ is_issue outcome }
+{
+    matches!(outcome, Ok(Accepted::Issued { .. }))
 }
 
 // Whether a line leaves a schedule open.
-fn is_within(entry: Entry) -> bool
-    ensures { result ≡ within entry }
+fn is_within(said: &Said) -> bool
+    ensures { result ≡ within said.now }
 {
     matches!(
-        entry,
-        Entry::Blank | Entry::Row { .. } | Entry::FaultyRow(_)
+        said,
+        Ok(None | Some(Entry::Row { .. })) | Err(Faulty::Row(_))
     )
-}
-
-// The figure at an index, and 0 past the last.
-fn figure_at(figures: &[u32], index: usize) -> u32
-    ensures { result ≡ slice_index figures.now index }
-{
-    if index < figures.len() {
-        figures[index]
-    } else {
-        0
-    }
 }
 
 // The kWh in a slot, and 0 past the last.
 fn kwh_at(readings: &[Reading], slot: usize) -> u32
     ensures { result ≡ (slice_index_or readings.now slot no_reading).kwh }
 {
-    if slot < readings.len() {
-        readings[slot].kwh
-    } else {
-        0
-    }
+    readings.get(slot).map_or(0, |reading| reading.kwh)
 }
 
-// Copies the kWh of a day's slots, from `first` on.
+// Copies the kWh of a day's slots, from `first` on. A slot is written by its index: of what a loop over `iter_mut` wrote, a proof knows only the length.
 fn copy_kwh(readings: &[Reading], split: &mut [Option<u32>], first: usize)
     requires { first < 2 ^ 32 }
     ensures { split.new ≡ copied readings.now first periods split.old }
 {
-    for index in 0..usize::from(PERIODS) {
-        let slot = first + index;
-        let kwh = kwh_at(readings, slot);
+    for slot in first..first + usize::from(PERIODS) {
         if slot < split.len() {
-            split[slot] = Some(kwh);
+            split[slot] = Some(kwh_at(readings, slot));
         }
-    }
-}
-
-// A schedule with a row for the periods from one to another.
-fn with_row(draft: Draft, from: u8, to: u8, row: AllocationRow) -> Draft
-    ensures { result ≡ rowed draft from to row }
-{
-    let Draft {
-        sender,
-        day,
-        moment,
-        mut rows,
-    } = draft;
-    put_rows(&mut rows, from, to, row);
-    Draft {
-        sender,
-        day,
-        moment,
-        rows,
     }
 }
 
@@ -463,11 +440,7 @@ fn with_row(draft: Draft, from: u8, to: u8, row: AllocationRow) -> Draft
 fn put_rows(rows: &mut [AllocationRow], from: u8, to: u8, row: AllocationRow)
     ensures { rows.new ≡ rows_with row (from - 1) (to - (from - 1)) rows.old }
 {
-    let first = usize::from(from.saturating_sub(1));
-    for index in 0..usize::from(to).saturating_sub(first) {
-        let place = first + index;
-        if place < rows.len() {
-            rows[place] = row;
-        }
-    }
+    let last = usize::from(to).min(rows.len());
+    let first = usize::from(from.saturating_sub(1)).min(last);
+    rows[first..last].fill(row);
 }

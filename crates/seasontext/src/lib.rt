@@ -1,53 +1,33 @@
 // A season: its calls run on one book, and what is printed of it.
 #![tactic(auto)]
 
-ghost use Rattle.std.specs.Prelude.{◌≡◌, Bool, [], ◌++◌, IfOk, string_bytes, OnOk};
-ghost use Rattle.text.specs.Words.{lines_of};
+ghost use Rattle.std.specs.Prelude.{◌≡◌, Bool, ◌++◌, IfOk, IsSome, string_bytes, OnOk};
+ghost use Rattle.text.specs.Left.{lines_left};
 ghost use Rattle.seasontext.specs.Agreeing.{SeasonsAgree};
-ghost use Rattle.seasontext.specs.Openings.{opening_text, reached};
-ghost use Rattle.seasontext.specs.Sums.{tables_text};
-ghost use Rattle.seasontext.specs.Seasons.{start_of, run_lines, ended, slip_before, before_text, terms_refused, until_terms, season_text};
+ghost use Rattle.seasontext.specs.Openings.{HasNumbers, reached};
+ghost use Rattle.seasontext.specs.Seasons.{terms_in, slip_before, before_text, until_terms, season_text};
 
-use desk::Desk;
+use desk::{Desk, Said};
 use domain::{Fault, Terms};
-use memory::{NoMemory, following};
-use seasonlines::{Entry, Slip, read_line};
+use memory::NoMemory;
+use running::Numbered;
+use seasonlines::{Entry, Faulty, Slip, read_line};
 use std::alloc::{AllocError, Global};
 use sums::put_tables;
-use text::next_line;
+use text::Lines;
 use texts::put_slip;
 
-mod calls;
 mod desk;
 mod memory;
 mod running;
 mod sums;
 mod texts;
 
-// Entries of the tables of holders and of the journal, if no line says otherwise.
-const HOLDERS: usize = 512;
-
-const JOURNAL: usize = 65_536;
-
-// The terms of a season, and the lines behind them.
-#[derive(Clone, Copy)]
-struct Opening<'a> {
-    places: u8,
-    days: u16,
-    capacity: u32,
-    // the number of the first line of the rest
-    number: u64,
-    rest: &'a [u8],
-}
-
 // What is printed of a season. It fails only for want of memory.
 pub fn season_text(heap: Global, input: &[u8], quiet: bool) -> Result<Vec<u8>, AllocError>
     ensures { IfOk result (λ v. v.items ≡ season_text quiet input.now) }
 {
-    match season(heap, input, quiet) {
-        Ok(text) => Ok(text.into_bytes()),
-        Err(_) => Err(AllocError),
-    }
+    Ok(season(heap, input, quiet)?.into_bytes())
 }
 
 // No season prints that a half hour differs: the lines of each that was split add up to the kWh of its last issue.
@@ -59,122 +39,87 @@ fn season(heap: Global, input: &[u8], quiet: bool) -> Result<String, NoMemory>
     ensures { IfOk result (λ s. string_bytes s ≡ season_text quiet input.now) }
 {
     let mut text = String::new(heap);
-    match find_terms(&mut text, input) {
-        Ok(Some(opening)) => open_season(heap, text, quiet, opening),
-        Ok(None) => end_early(heap, text),
-        Err(error) => Err(error),
+    let mut lines = (1..).zip(Lines::of(input));
+    match find_terms(&mut text, &mut lines)? {
+        Some(Ok(terms)) => {
+            let mut desk = Desk::open(heap, terms, quiet, text)?;
+            desk.run(lines)?;
+            Ok(desk.into_text())
+        }
+        Some(Err(fault)) => {
+            write!(text, "terms {fault}\n")?;
+            Ok(text)
+        }
+        // a season without terms ends with two empty tables
+        None => {
+            put_tables(heap, &mut text, &[], &[])?;
+            Ok(text)
+        }
     }
 }
 
-// Tells of the lines before the terms, and finds these.
-fn find_terms<'a>(text: &mut String, input: &'a [u8]) -> Result<Option<Opening<'a>>, NoMemory>
-    ensures { IfOk result (λ o. (quiet : Bool) → reached quiet (string_bytes text.new) o ≡ until_terms quiet 1 (string_bytes text.old) (lines_of input.now)) }
+// Tells of the lines before the terms, and finds these, or why they are refused. The lines behind them are left.
+fn find_terms(
+    text: &mut String,
+    lines: &mut Numbered<'_>,
+) -> Result<Option<Result<Terms, Fault>>, AllocError>
+    requires { HasNumbers lines.old.a.start (lines_left lines.old.b) }
+    ensures told { IfOk result (λ found. (quiet : Bool) → reached quiet lines.new.a.start (string_bytes text.new) found (lines_left lines.new.b) ≡ until_terms quiet lines.old.a.start (string_bytes text.old) (lines_left lines.old.b)) }
+    ensures numbers { IfOk result (λ found. IsSome found → HasNumbers lines.new.a.start (lines_left lines.new.b)) }
 {
-    let mut number = 1;
-    let mut rest = input;
-    while let Some(line) = next_line(rest) {
-        let entry = read_line(line.first);
-        let next = following(number)?;
-        if let Entry::Terms {
-            places,
-            days,
-            capacity,
-        } = entry
-        {
-            return Ok(Some(Opening {
-                places,
-                days,
-                capacity,
-                number: next,
-                rest: line.rest,
-            }));
+    while let Some((number, line)) = lines.next() {
+        let said = read_line(line);
+        if let Some((places, days, capacity)) = terms_in(&said) {
+            return Ok(Some(Terms::new(places, days, capacity)));
         }
-        put_before(text, number, entry)?;
-        number = next;
-        rest = line.rest;
+        put_before(text, number, &said)?;
     }
     Ok(None)
 }
 
-// What is wrong with a line before the terms, if it says anything.
-fn slip_before(entry: Entry) -> Option<Slip>
-    ensures { result ≡ slip_before entry }
+// The places, days and capacity of a line that gives terms.
+fn terms_in(said: &Said) -> Option<(u8, u16, u32)>
+    ensures { result ≡ terms_in said.now }
 {
-    match entry {
-        Entry::Blank | Entry::Terms { .. } => None,
-        Entry::Row { .. } | Entry::FaultyRow(_) => Some(Slip::RowOutside),
-        Entry::Faulty(slip) => Some(slip),
-        _ => Some(Slip::BeforeTerms),
+    match said {
+        Ok(
+            Some(
+                Entry::Terms {
+                    places,
+                    days,
+                    capacity,
+                },
+            ),
+        ) => Some((*places, *days, *capacity)),
+        Ok(
+            None
+            | Some(
+                Entry::Tables { .. } | Entry::Schedule { .. } | Entry::Row { .. } | Entry::Ask(_),
+            ),
+        )
+        | Err(_) => None,
     }
 }
 
-fn put_before(text: &mut String, number: u64, entry: Entry) -> Result<(), NoMemory>
-    ensures { OnOk result (string_bytes text.new ≡ string_bytes text.old ++ before_text number entry) }
+// What is wrong with a line before the terms, if it says anything.
+fn slip_before(said: &Said) -> Option<Slip>
+    ensures { result ≡ slip_before said.now }
 {
-    match slip_before(entry) {
+    match said {
+        Ok(None | Some(Entry::Terms { .. })) => None,
+        Ok(Some(Entry::Row { .. })) | Err(Faulty::Row(_)) => Some(Slip::RowOutside),
+        Ok(Some(Entry::Tables { .. } | Entry::Schedule { .. } | Entry::Ask(_))) => {
+            Some(Slip::BeforeTerms)
+        }
+        Err(Faulty::Line(slip)) => Some(*slip),
+    }
+}
+
+fn put_before(text: &mut String, number: u64, said: &Said) -> Result<(), AllocError>
+    ensures { OnOk result (string_bytes text.new ≡ string_bytes text.old ++ before_text number said.now) }
+{
+    match slip_before(said) {
         Some(slip) => put_slip(text, number, slip),
         None => Ok(()),
-    }
-}
-
-// A season without terms ends with two empty tables.
-fn end_early(heap: Global, text: String) -> Result<String, NoMemory>
-    ensures { IfOk result (λ s. string_bytes s ≡ string_bytes text ++ tables_text [] []) }
-{
-    let mut text = text;
-    match put_tables(heap, &mut text, &[], &[]) {
-        Ok(()) => Ok(text),
-        Err(error) => Err(error),
-    }
-}
-
-// Runs a season from its terms on, unless they are refused.
-fn open_season(
-    heap: Global,
-    text: String,
-    quiet: bool,
-    opening: Opening<'_>,
-) -> Result<String, NoMemory>
-    ensures { IfOk result (λ s. string_bytes s ≡ opening_text quiet (string_bytes text) opening.entry) }
-{
-    match Terms::new(opening.places, opening.days, opening.capacity) {
-        Ok(terms) => run_season(heap, text, quiet, terms, opening.number, opening.rest),
-        Err(fault) => refuse_terms(text, fault),
-    }
-}
-
-fn refuse_terms(text: String, fault: Fault) -> Result<String, NoMemory>
-    ensures { IfOk result (λ s. string_bytes s ≡ string_bytes text ++ terms_refused fault) }
-{
-    let mut text = text;
-    match put_refusal(&mut text, fault) {
-        Ok(()) => Ok(text),
-        Err(error) => Err(error),
-    }
-}
-
-fn put_refusal(text: &mut String, fault: Fault) -> Result<(), NoMemory>
-    ensures { OnOk result (string_bytes text.new ≡ string_bytes text.old ++ terms_refused fault) }
-{
-    let number = fault.number();
-    let spot = fault.spot();
-    write!(text, "terms refused {number} {spot}\n")?;
-    Ok(())
-}
-
-fn run_season(
-    heap: Global,
-    text: String,
-    quiet: bool,
-    terms: Terms,
-    number: u64,
-    rest: &[u8],
-) -> Result<String, NoMemory>
-    ensures { IfOk result (λ s. string_bytes s ≡ ended (run_lines number (start_of 512 65536 terms quiet (string_bytes text)) (lines_of rest.now))) }
-{
-    let mut desk = Desk::open(heap, HOLDERS, JOURNAL, terms, quiet, text)?;
-    match desk.run(heap, number, rest) {
-        Ok(()) => Ok(desk.into_text()),
-        Err(error) => Err(error),
     }
 }

@@ -2,17 +2,10 @@
 ghost use Rattle.std.specs.Prelude.{◌≡◌, ◌+◌, IfOk};
 
 use std::alloc::AllocError;
-use std::fmt;
 
-// Memory was wanting; so is it said of a count that no memory could hold.
+// Memory was wanting. So is it said of a count of calls past 64 bits, which no input reaches: a bound on that count would have to stand in the contract of each function that calls, up to the season.
 #[derive(Clone, Copy)]
 pub(crate) struct NoMemory;
-
-impl From<fmt::Error> for NoMemory {
-    fn from(_error: fmt::Error) -> NoMemory {
-        NoMemory
-    }
-}
 
 impl From<AllocError> for NoMemory {
     fn from(_error: AllocError) -> NoMemory {
@@ -20,12 +13,15 @@ impl From<AllocError> for NoMemory {
     }
 }
 
+impl From<NoMemory> for AllocError {
+    fn from(_error: NoMemory) -> AllocError {
+        AllocError
+    }
+}
+
 // The number after another.
 pub(crate) fn following(number: u64) -> Result<u64, NoMemory>
     ensures { IfOk result (λ next. next ≡ number + 1) }
 {
-    match number.checked_add(1) {
-        Some(next) => Ok(next),
-        None => Err(NoMemory),
-    }
+    number.checked_add(1).ok_or(NoMemory)
 }

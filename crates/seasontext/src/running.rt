@@ -1,41 +1,52 @@
 // A season run on a desk, from the terms to the two tables.
 ghost use Rattle.std.specs.Prelude.{◌≡◌, replicate, IfOk, None, string_bytes, OnOk};
-ghost use Rattle.text.specs.Words.{lines_of};
+ghost use Rattle.text.specs.Left.{lines_left};
+ghost use Rattle.seasontext.specs.Openings.{HasNumbers};
 ghost use Rattle.seasontext.specs.Seasons.{start_of, run_lines, ended};
 ghost use Rattle.seasontext.specs.Seen.{seen};
 
-use crate::desk::{Desk, NO_DATED_ROW, NO_HOLDER, NO_LINE};
-use crate::memory::{NoMemory, following};
+use crate::desk::Desk;
+use crate::memory::NoMemory;
 use crate::sums::put_tables;
 use crate::texts::lines_from;
 use book::Book;
-use domain::{Reading, Slot, Terms, issued_slots, reading_slots};
+use domain::{AllocationRow, Line, Reading, Slot, Terms, issued_slots, reading_slots};
+use history::Dated;
 use rules::House;
 use seasonlines::read_line;
 use std::alloc::{AllocError, Global};
-use text::next_line;
+use std::iter::Zip;
+use std::ops::RangeFrom;
+use text::Lines;
+
+// The lines of a season that are left, each with its number.
+pub(crate) type Numbered<'a> = Zip<RangeFrom<u64>, Lines<'a>>;
+
+// Entries of the tables of holders and of the journal, if no line says otherwise.
+const HOLDERS: usize = 512;
+
+const JOURNAL: usize = 65_536;
 
 impl Desk {
     // A desk with a book that is opened, and blank tables.
     pub(crate) fn open(
         heap: Global,
-        holders: usize,
-        journal: usize,
         terms: Terms,
         quiet: bool,
         text: String,
-    ) -> Result<Desk, NoMemory>
-        ensures { IfOk result (λ d. seen d ≡ start_of holders journal terms quiet (string_bytes text)) }
+    ) -> Result<Desk, AllocError>
+        ensures { IfOk result (λ d. seen d ≡ start_of 512 65536 terms quiet (string_bytes text)) }
     {
         let slots = reading_slots(terms.days);
         let issued = issued_slots(terms.places, terms.days);
         Ok(Desk {
+            heap,
             book: Book::open(terms, House),
-            holders: vec![in heap; NO_HOLDER; holders]?,
-            rows: vec![in heap; NO_DATED_ROW; slots]?,
+            holders: vec![in heap; Dated::blank(0); HOLDERS]?,
+            rows: vec![in heap; Dated::blank(AllocationRow::NONE); slots]?,
             readings: vec![in heap; Reading::NONE; slots]?,
             issued: vec![in heap; Slot::NONE; issued]?,
-            journal: vec![in heap; NO_LINE; journal]?,
+            journal: vec![in heap; Line::NONE; JOURNAL]?,
             split: no_splits(heap, slots)?,
             quiet,
             calls: 0,
@@ -45,36 +56,35 @@ impl Desk {
         })
     }
 
-    // Does what the lines of an input say, of which the first is the line `first`.
-    fn lines(&mut self, heap: Global, first: u64, input: &[u8]) -> Result<(), NoMemory>
-        ensures { OnOk result (seen self.new ≡ run_lines first (seen self.old) (lines_of input.now)) }
+    // Does what the lines say.
+    fn lines(&mut self, lines: Numbered<'_>) -> Result<(), NoMemory>
+        requires { HasNumbers lines.a.start (lines_left lines.b) }
+        ensures { OnOk result (seen self.new ≡ run_lines lines.entry.a.start (seen self.old) (lines_left lines.entry.b)) }
     {
-        let mut number = first;
-        let mut rest = input;
-        while let Some(line) = next_line(rest) {
-            self.line(heap, number, read_line(line.first))?;
-            number = following(number)?;
-            rest = line.rest;
+        for (number, line) in lines {
+            self.line(number, read_line(line))?;
         }
         Ok(())
     }
 
     // Calls an open schedule, and adds the two tables.
-    fn end(&mut self, heap: Global) -> Result<(), NoMemory>
+    fn end(&mut self) -> Result<(), NoMemory>
         ensures { OnOk result (string_bytes self.new.text ≡ ended (seen self.old)) }
     {
         self.close()?;
         let count = self.book.lines();
         let lines = lines_from(self.journal.as_slice(), 0, count);
-        put_tables(heap, &mut self.text, lines, self.split.as_slice())
+        put_tables(self.heap, &mut self.text, lines, self.split.as_slice())?;
+        Ok(())
     }
 
     // Runs a season's lines to its end.
-    pub(crate) fn run(&mut self, heap: Global, first: u64, input: &[u8]) -> Result<(), NoMemory>
-        ensures { OnOk result (string_bytes self.new.text ≡ ended (run_lines first (seen self.old) (lines_of input.now))) }
+    pub(crate) fn run(&mut self, lines: Numbered<'_>) -> Result<(), NoMemory>
+        requires { HasNumbers lines.a.start (lines_left lines.b) }
+        ensures { OnOk result (string_bytes self.new.text ≡ ended (run_lines lines.entry.a.start (seen self.old) (lines_left lines.entry.b))) }
     {
-        self.lines(heap, first, input)?;
-        self.end(heap)
+        self.lines(lines)?;
+        self.end()
     }
 
     // What has been printed.

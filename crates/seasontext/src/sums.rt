@@ -1,70 +1,27 @@
-// The two tables at the end of a season.
-ghost use Rattle.std.specs.Prelude.{◌≡◌, ◌+◌, ◌<◌, true, false, ◌++◌, pos, ◌+ℤ◌, IfOk, if◌then◌else◌, Some, None, string_bytes, OnOk, slice_index_or, slice_set};
-ghost use Rattle.domain.specs.Lines.{gathered};
+// The two tables at the end of a season. What adds to a text here chooses the rows and works out their sums; a row prints by one `write!`.
+ghost use Rattle.std.specs.Prelude.{◌≡◌, ◌++◌, Bool, IfOk, string_bytes, OnOk};
+ghost use Rattle.std.specs.Fn.{FnReturnsAt};
+ghost use Rattle.std.specs.List.{flat_map};
+ghost use Rattle.domain.specs.declared.Line.{Line};
 ghost use Rattle.season.specs.Law.{sum_of};
-ghost use Rattle.seasontext.specs.Sums.{suppliers, picked, agree_text, period_text, day_text, period_table, marked, supplier_text, first_heading, second_heading, tables_text};
+ghost use Rattle.seasontext.specs.Sums.{Tells, period_text, day_text, period_table, suppliers_sent, supplier_text, tables_text};
 
-use crate::memory::NoMemory;
 use domain::{Line, MAX_DAYS, PERIODS, reading_slot};
-use std::alloc::Global;
-
-// Numbers that a supplier may have.
-const SUPPLIERS: usize = 65_536;
-
-// The lines that a sum picks.
-#[derive(Clone, Copy)]
-pub(crate) enum Pick {
-    OfPeriod { day: u16, period: u8 },
-    OfSupplier { supplier: u16 },
-}
-
-impl Pick {
-    // What a line adds to the sum.
-    fn part(self, line: &Line) -> i32
-        ensures { result ≡ (if picked self line.now then line.now.volume else pos 0) }
-    {
-        if self.takes(line) { line.volume } else { 0 }
-    }
-
-    fn takes(self, line: &Line) -> bool
-        ensures { result ≡ picked self line.now }
-    {
-        match self {
-            Pick::OfPeriod { day, period } => line.day == day && line.period == period,
-            Pick::OfSupplier { supplier } => line.supplier == supplier,
-        }
-    }
-}
-
-fn add(sum: i64, volume: i32) -> Result<i64, NoMemory>
-    ensures { IfOk result (λ z. z ≡ sum +ℤ volume) }
-{
-    match sum.checked_add(i64::from(volume)) {
-        Some(more) => Ok(more),
-        None => Err(NoMemory),
-    }
-}
+use std::alloc::{AllocError, Global};
+use std::collections::BTreeSet;
 
 // The volumes of the lines that are picked, added up.
-fn sum_of(lines: &[Line], pick: Pick) -> Result<i64, NoMemory>
-    ensures { IfOk result (λ z. z ≡ sum_of (picked pick) lines.now) }
+fn sum_of<F: Fn(&Line) -> bool>(lines: &[Line], picks: F) -> i128
+    requires { F.IsAlwaysCallable picks }
+    ensures { (p : Line → Bool) → Tells (FnReturnsAt F.Fn picks) p → result ≡ sum_of p lines.now }
 {
     let mut sum = 0;
     for line in lines {
-        sum = add(sum, pick.part(line))?;
+        if picks(line) {
+            sum += i128::from(line.volume);
+        }
     }
-    Ok(sum)
-}
-
-fn agreement(kwh: u32, sum: i64) -> &'static str
-    ensures { result.now ≡ agree_text (pos kwh) sum }
-{
-    let kwh = i64::from(kwh);
-    if kwh < sum || sum < kwh {
-        "differs"
-    } else {
-        "agrees"
-    }
+    sum
 }
 
 // Adds a row of the first table, for a day's period that was split.
@@ -74,26 +31,19 @@ fn put_period(
     day: u16,
     period: u8,
     split: Option<u32>,
-) -> Result<(), NoMemory>
+) -> Result<(), AllocError>
     ensures { OnOk result (string_bytes text.new ≡ string_bytes text.old ++ period_text lines.now day period split) }
 {
     let Some(kwh) = split else {
         return Ok(());
     };
-    let sum = sum_of(lines, Pick::OfPeriod { day, period })?;
-    let word = agreement(kwh, sum);
-    write!(text, "{day} {period} {kwh} {sum} {word}\n")?;
-    Ok(())
-}
-
-fn split_at(split: &[Option<u32>], slot: usize) -> Option<u32>
-    ensures { result ≡ slice_index_or split.now slot None }
-{
-    if slot < split.len() {
-        split[slot]
+    let sum = sum_of(lines, |line| line.day == day && line.period == period);
+    let word = if i128::from(kwh) == sum {
+        "agrees"
     } else {
-        None
-    }
+        "differs"
+    };
+    write!(text, "{day} {period} {kwh} {sum} {word}\n")
 }
 
 // Adds a day's rows of the first table.
@@ -102,77 +52,49 @@ fn put_day(
     lines: &[Line],
     split: &[Option<u32>],
     day: u16,
-) -> Result<(), NoMemory>
+) -> Result<(), AllocError>
     ensures { OnOk result (string_bytes text.new ≡ string_bytes text.old ++ day_text lines.now split.now day) }
 {
-    for index in 0..PERIODS {
-        let period = index + 1;
-        let part = split_at(split, reading_slot(day, period));
+    for period in 1..=PERIODS {
+        let part = split.get(reading_slot(day, period)).copied().flatten();
         put_period(text, lines, day, period, part)?;
     }
     Ok(())
 }
 
 // Adds the first table.
-fn put_days(text: &mut String, lines: &[Line], split: &[Option<u32>]) -> Result<(), NoMemory>
+fn put_days(text: &mut String, lines: &[Line], split: &[Option<u32>]) -> Result<(), AllocError>
     ensures { OnOk result (string_bytes text.new ≡ string_bytes text.old ++ period_table lines.now split.now) }
 {
+    // a half hour is asked for by the numbers of its day and period
     for day in 0..MAX_DAYS {
         put_day(text, lines, split, day)?;
     }
     Ok(())
 }
 
-fn set_flag(flags: &mut [bool], place: usize)
-    ensures { flags.new ≡ slice_set flags.old place true }
+// The suppliers that were sent a line.
+fn suppliers_of(heap: Global, lines: &[Line]) -> Result<BTreeSet<u16>, AllocError>
+    ensures { IfOk result (λ s. s.keys ≡ suppliers_sent lines.now) }
 {
-    if place < flags.len() {
-        flags[place] = true;
-    }
-}
-
-// Sets the flag of each line's supplier.
-fn mark(flags: &mut [bool], lines: &[Line])
-    ensures { flags.new ≡ marked flags.old lines.now }
-{
+    let mut suppliers = BTreeSet::new(heap);
     for line in lines {
-        set_flag(flags, usize::from(line.supplier));
+        suppliers.insert(line.supplier)?;
     }
+    Ok(suppliers)
 }
 
-fn is_set(flags: &[bool], place: usize) -> bool
-    ensures { result ≡ slice_index_or flags.now place false }
-{
-    if place < flags.len() {
-        flags[place]
-    } else {
-        false
-    }
-}
-
-// Adds a row of the second table, if a line was sent.
-fn put_supplier(
+// Adds the rows of the second table for these suppliers.
+fn put_suppliers(
     text: &mut String,
     lines: &[Line],
-    supplier: u16,
-    sent: bool,
-) -> Result<(), NoMemory>
-    ensures { OnOk result (string_bytes text.new ≡ string_bytes text.old ++ supplier_text lines.now supplier sent) }
+    suppliers: &BTreeSet<u16>,
+) -> Result<(), AllocError>
+    ensures { OnOk result (string_bytes text.new ≡ string_bytes text.old ++ flat_map (supplier_text lines.now) suppliers.now.keys) }
 {
-    if !sent {
-        return Ok(());
-    }
-    let sum = sum_of(lines, Pick::OfSupplier { supplier })?;
-    write!(text, "{supplier} {sum}\n")?;
-    Ok(())
-}
-
-// Adds the second table: a row for each supplier whose flag is set.
-fn put_suppliers(text: &mut String, lines: &[Line], flags: &[bool]) -> Result<(), NoMemory>
-    ensures { OnOk result (string_bytes text.new ≡ string_bytes text.old ++ gathered (λ s. supplier_text lines.now s (slice_index_or flags.now s false)) suppliers) }
-{
-    for supplier in 0..SUPPLIERS {
-        put_supplier(text, lines, supplier as u16, is_set(flags, supplier))?;
+    for &supplier in suppliers {
+        let sum = sum_of(lines, |line| line.supplier == supplier);
+        write!(text, "{supplier} {sum}\n")?;
     }
     Ok(())
 }
@@ -183,25 +105,12 @@ pub(crate) fn put_tables(
     text: &mut String,
     lines: &[Line],
     split: &[Option<u32>],
-) -> Result<(), NoMemory>
+) -> Result<(), AllocError>
     ensures { OnOk result (string_bytes text.new ≡ string_bytes text.old ++ tables_text lines.now split.now) }
 {
-    let mut flags = vec![in heap; false; SUPPLIERS]?;
-    mark(flags.as_mut_slice(), lines);
-    put_both(text, lines, split, flags.as_slice())
-}
-
-// Adds the two tables, the second by the flags of its suppliers.
-fn put_both(
-    text: &mut String,
-    lines: &[Line],
-    split: &[Option<u32>],
-    flags: &[bool],
-) -> Result<(), NoMemory>
-    ensures { OnOk result (string_bytes text.new ≡ string_bytes text.old ++ (first_heading ++ (period_table lines.now split.now ++ (second_heading ++ gathered (λ s. supplier_text lines.now s (slice_index_or flags.now s false)) suppliers)))) }
-{
+    let suppliers = suppliers_of(heap, lines)?;
     write!(text, "\nDAY PERIOD KWH LINES\n")?;
     put_days(text, lines, split)?;
     write!(text, "\nSUPPLIER KWH\n")?;
-    put_suppliers(text, lines, flags)
+    put_suppliers(text, lines, &suppliers)
 }

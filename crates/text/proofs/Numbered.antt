@@ -1,4 +1,4 @@
-use Rattle.std.proofs.Common.{◌≡◌, ℕ, ◌+◌, ◌-◌, ◌*◌, ◌<◌, ◌≤◌, true, false, cond, ◌&&◌, leb, List, [], ◌∷◌, length, get_or, drop, Some, None, Option, refl, ap, ◌∙◌, arith}
+use Rattle.std.proofs.Common.{◌≡◌, ℕ, ◌+◌, ◌-◌, ◌*◌, ◌<◌, ◌≤◌, true, cond, leb, List, [], ◌∷◌, length, get_or, drop, Some, None, Option, refl, ap, arith}
 use Rattle.std.specs.Char.{is_ascii_digit}
 use Rattle.std.specs.Str.{all_ascii_digits}
 use Rattle.std.proofs.lemmas.List.{at_drop_more}
@@ -12,12 +12,6 @@ number_after_ge n [] = omega arith
 number_after_ge n (c ∷ cs) = let more = number_after_ge (n * 10 + (c - 48)) cs in omega arith
 
 module _ (xs : List ℕ) (i : ℕ) (h : i < length xs) where
-  pub digits_more : is_ascii_digit (get_or xs i 0) ≡ true → all_ascii_digits (drop i xs) ≡ all_ascii_digits (drop (i + 1) xs)
-  digits_more e = at_drop_more all_ascii_digits xs i 0 h ∙ ap (λ b. b && all_ascii_digits (drop (i + 1) xs)) e
-
-  pub digits_stop : is_ascii_digit (get_or xs i 0) ≡ false → all_ascii_digits (drop i xs) ≡ false
-  digits_stop e = at_drop_more all_ascii_digits xs i 0 h ∙ ap (λ b. b && all_ascii_digits (drop (i + 1) xs)) e
-
   -- the next of some digits, with the ones after it
   pub digits_next : all_ascii_digits (drop i xs) ≡ true → (48 ≤ get_or xs i 0) × (get_or xs i 0 ≤ 57) × (all_ascii_digits (drop (i + 1) xs) ≡ true)
   digits_next e =

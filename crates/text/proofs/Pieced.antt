@@ -1,7 +1,8 @@
-use Rattle.std.proofs.Common.{◌≡◌, ℕ, suc, ◌+◌, ◌-◌, ◌<◌, ◌≤◌, Bool, true, false, not, eqb, List, [], ◌∷◌, ◌++◌, length, take, drop, MatchBool, sym, refl, ap, ◌∙◌, ⊎_elim, append_assoc, append-nil, add-zero, one-add, arith, length-append, length-drop}
+use Rattle.std.proofs.Common.{◌≡◌, ℕ, suc, ◌+◌, ◌-◌, ◌<◌, Bool, true, false, not, eqb, List, [], ◌∷◌, ◌++◌, length, take, drop, sym, refl, ap, ◌∙◌, ⊎_elim, append_assoc, append-nil, add-zero, one-add, arith, length-append, length-drop}
 use Rattle.std.specs.List.{prefix_len}
 use Rattle.std.proofs.lemmas.List.{drop-drop, nil_from_length}
-use Rattle.std.proofs.lemmas.Bool.{cases_Bool, eqb-true, eqb-false}
+use Rattle.std.proofs.lemmas.List.Sums.{prefix_len-le-length}
+use Rattle.std.proofs.lemmas.Bool.{cases_Bool}
 use Rattle.text.specs.Pieces.{Begins}
 use Rattle.text.specs.Words.{blank, ended, words_after, words_of, lines_after, lines_of}
 
@@ -49,9 +50,8 @@ letter_next (c ∷ cs) some =
     ⊎_elim (λ (b : blank c ≡ true). rw (b, one-add) (letter_next cs (rw (b, one-add) at some)))
     (λ (b : blank c ≡ false). rw b (rw b (omega arith))) (cases_Bool (blank c))
 
-pub begins : (xs tail : List ℕ) (n : ℕ) → n ≡ prefix_len blank xs → tail ≡ drop n xs → Begins xs tail
-begins xs tail n is cut =
-    let at : tail ≡ drop (prefix_len blank xs) xs = cut ∙ ap (λ k. drop k xs) is in
+pub begins : (xs tail : List ℕ) → tail ≡ drop (prefix_len blank xs) xs → Begins xs tail
+begins xs tail at =
     record {
       words = words_skip xs ∙ ap words_of (sym at);
       short = let less = length-drop (prefix_len blank xs) xs in let same = ap length at in omega arith;
@@ -60,24 +60,21 @@ begins xs tail n is cut =
     }
 
 -- the first word and what follows it
-pub word_cut : (tail first rest : List ℕ) (n : ℕ) → n ≡ prefix_len letter tail → first ≡ take n tail → rest ≡ drop n tail → n ≤ length tail → 0 < n → (words_of tail ≡ first ∷ words_of rest) × (length rest < length tail)
-word_cut tail first rest n en ef er within some =
+pub word_cut : (tail first rest : List ℕ) → first ≡ take (prefix_len letter tail) tail → rest ≡ drop (prefix_len letter tail) tail → 0 < prefix_len letter tail → (words_of tail ≡ first ∷ words_of rest) × (length rest < length tail)
+word_cut tail first rest ef er some =
     let split = words_first [] tail (omega arith) in
     let same : (take (prefix_len letter tail) tail ∷ words_of (drop (prefix_len letter tail) tail)) ≡ first ∷ words_of rest = cc in
-    let shorter : length rest ≡ length tail - n = ap length er ∙ length-drop n tail in
+    let within = prefix_len-le-length letter tail in
+    let shorter : length rest ≡ length tail - prefix_len letter tail = ap length er ∙ length-drop (prefix_len letter tail) tail in
     (split ∙ same, omega arith)
 
 -- the first line and what follows it
-pub line_cut : (xs first tail rest : List ℕ) (n : ℕ) → 0 < length xs → n ≡ prefix_len inside xs → first ≡ take n xs → tail ≡ drop n xs → rest ≡ drop 1 tail → (lines_of xs ≡ first ∷ lines_of rest) × (length rest < length xs)
-line_cut xs first tail rest n some en ef et er =
+pub line_cut : (xs first tail rest : List ℕ) → 0 < length xs → first ≡ take (prefix_len inside xs) xs → tail ≡ drop (prefix_len inside xs) xs → rest ≡ drop 1 tail → (lines_of xs ≡ first ∷ lines_of rest) × (length rest < length xs)
+line_cut xs first tail rest some ef et er =
+    let n = prefix_len inside xs in
     let split = lines_first [] xs (omega arith) in
-    let next : n + 1 ≡ suc (prefix_len inside xs) = omega arith in
-    let after : rest ≡ drop (suc (prefix_len inside xs)) xs = er ∙ (ap (drop 1) et ∙ (drop-drop 1 n xs ∙ ap (λ k. drop k xs) next)) in
-    let same : (take (prefix_len inside xs) xs ∷ lines_of (drop (suc (prefix_len inside xs)) xs)) ≡ first ∷ lines_of rest = cc in
+    let next : n + 1 ≡ suc n = omega arith in
+    let after : rest ≡ drop (suc n) xs = er ∙ (ap (drop 1) et ∙ (drop-drop 1 n xs ∙ ap (λ k. drop k xs) next)) in
+    let same : (take n xs ∷ lines_of (drop (suc n) xs)) ≡ first ∷ lines_of rest = cc in
     let shorter : length rest ≡ length xs - (n + 1) = ap length (er ∙ (ap (drop 1) et ∙ drop-drop 1 n xs)) ∙ length-drop (n + 1) xs in
     (split ∙ same, omega arith)
-
--- an input has a line unless it is empty
-pub has_line : (b : Bool) (xs : List ℕ) → b ≡ eqb (length xs) 0 → MatchBool (not b) (0 < length xs) (lines_of xs ≡ [])
-has_line true xs e = ap lines_of (nil_from_length xs (eqb-true (length xs) 0 (sym e)))
-has_line false xs e = let some = eqb-false (length xs) 0 (sym e) in omega arith

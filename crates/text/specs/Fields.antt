@@ -19,10 +19,19 @@ and_then (Ok x) rest = rest x
 and_then (Err f) rest = Err f
 
 -- why the word k is no number
+abbrev pub fault_at : ℕ → Misread → WordFault
+fault_at k misread.NotDecimal = NotDecimal k
+fault_at k misread.TooLarge = TooLarge k
+
+-- a number, or why the word k is none
 abbrev pub blamed : ℕ → Result ℕ Misread → Result ℕ WordFault
 blamed k (Ok n) = Ok n
-blamed k (Err misread.NotDecimal) = Err (NotDecimal k)
-blamed k (Err misread.TooLarge) = Err (TooLarge k)
+blamed k (Err m) = Err (fault_at k m)
+
+-- what was read, with the value that its type is seen as
+abbrev pub seen_as : {A B F : Type 0} → (A → B) → Result A F → Result B F
+seen_as value (Ok x) = Ok (value x)
+seen_as value (Err f) = Err f
 
 -- the word k as a number of at most `most`
 abbrev pub word_number : ℕ → ℕ → List ℕ → Result ℕ WordFault

@@ -2,3 +2,4 @@ pub mod Words
 pub mod Pieces
 pub mod Numbers
 pub mod Fields
+pub mod Left

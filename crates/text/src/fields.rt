@@ -1,13 +1,15 @@
 // The fields of a line: its words from left to right, each as a number of the field's width.
-ghost use Rattle.std.specs.Prelude.{◌≡◌, ◌≤◌, drop, IfOk, Some};
+ghost use Rattle.std.specs.Prelude.{◌≡◌, drop, Some};
+ghost use Rattle.std.specs.Iterator.{YieldsFirstRef, item_count};
 ghost use Rattle.text.specs.Words.{words_of};
-ghost use Rattle.text.specs.Fields.{word_fault_text, word_number, number_in, end_in, most8, most16, most32, most64};
+ghost use Rattle.text.specs.Left.{words_left};
+ghost use Rattle.text.specs.Fields.{word_fault_text, seen_as, word_number, number_in, end_in, fault_at};
 
-use crate::{Misread, next_word, read_decimal};
+use crate::{Misread, Number, next_word, read_decimal};
 use std::fmt;
 
 // What is wrong with a word of a line, with the word's number.
-#[derive(Clone, Copy)]
+#[derive(Clone, Copy, Debug, PartialEq, Eq)]
 pub enum WordFault {
     Missing(u8),
     NotDecimal(u8),
@@ -28,39 +30,41 @@ impl fmt::Display for WordFault {
     }
 }
 
-// The words of a line that are not yet read. Each method is told the number of the word that comes next.
+// The words of a line that have not been taken yet. A method that is told a `place` is told the number of the word that comes next.
 #[derive(Drop)]
 pub struct Words<'a> {
     pub rest: &'a [u8],
 }
 
+impl<'a> Iterator for Words<'a> {
+    type Item = &'a [u8];
+
+    ghost next_gives = { YieldsFirstRef words_left };
+
+    ghost remaining = { item_count words_left };
+
+    fn next(&mut self) -> Option<&'a [u8]> {
+        let word = next_word(self.rest)?;
+        self.rest = word.rest;
+        Some(word.first)
+    }
+}
+
 impl Words<'_> {
-    pub fn bits8(&mut self, place: u8) -> Result<u8, WordFault>
-        ensures value { result ≡ number_in place most8 (words_of self.old.rest.now) }
-        ensures rest { words_of self.new.rest.now ≡ drop 1 (words_of self.old.rest.now) }
+    // The words of a line, from the first to the last.
+    pub fn of(line: &[u8]) -> Words<'_>
+        ensures { words_left result ≡ words_of line.now }
     {
-        Ok(self.number(place, u64::from(u8::MAX))? as u8)
+        Words { rest: line }
     }
 
-    pub fn bits16(&mut self, place: u8) -> Result<u16, WordFault>
-        ensures value { result ≡ number_in place most16 (words_of self.old.rest.now) }
+    // The next word as a number.
+    pub fn number<N: Number>(&mut self, place: u8) -> Result<N, WordFault>
+        ensures value { seen_as N.value result ≡ number_in place N.MOST (words_of self.old.rest.now) }
         ensures rest { words_of self.new.rest.now ≡ drop 1 (words_of self.old.rest.now) }
     {
-        Ok(self.number(place, u64::from(u16::MAX))? as u16)
-    }
-
-    pub fn bits32(&mut self, place: u8) -> Result<u32, WordFault>
-        ensures value { result ≡ number_in place most32 (words_of self.old.rest.now) }
-        ensures rest { words_of self.new.rest.now ≡ drop 1 (words_of self.old.rest.now) }
-    {
-        Ok(self.number(place, u64::from(u32::MAX))? as u32)
-    }
-
-    pub fn bits64(&mut self, place: u8) -> Result<u64, WordFault>
-        ensures value { result ≡ number_in place most64 (words_of self.old.rest.now) }
-        ensures rest { words_of self.new.rest.now ≡ drop 1 (words_of self.old.rest.now) }
-    {
-        self.number(place, u64::MAX)
+        let text = self.next().ok_or(WordFault::Missing(place))?;
+        word(text, place)
     }
 
     // No word is left.
@@ -72,37 +76,24 @@ impl Words<'_> {
             None => Ok(()),
         }
     }
+}
 
-    // The next word as a number of at most `most`.
-    fn number(&mut self, place: u8, most: u64) -> Result<u64, WordFault>
-        ensures value { result ≡ number_in place most (words_of self.old.rest.now) }
-        ensures bound { IfOk result (λ n. n ≤ most) }
-        ensures rest { words_of self.new.rest.now ≡ drop 1 (words_of self.old.rest.now) }
+// The number that a word writes, which is the line's word `place`.
+pub fn word<N: Number>(text: &[u8], place: u8) -> Result<N, WordFault>
+    ensures { seen_as N.value result ≡ word_number place N.MOST text.now }
+{
+    let number = read_decimal(text, N::MOST).map_err(|misread| misread.at(place))?;
+    Ok(N::narrowed(number))
+}
+
+impl Misread {
+    // The same, said of the line's word `place`.
+    fn at(self, place: u8) -> WordFault
+        ensures { result ≡ fault_at place self }
     {
-        match next_word(self.rest) {
-            Some(word) => {
-                self.rest = word.rest;
-                number_in(word.first, place, most)
-            }
-            None => Err(WordFault::Missing(place)),
+        match self {
+            Misread::NotDecimal => WordFault::NotDecimal(place),
+            Misread::TooLarge => WordFault::TooLarge(place),
         }
-    }
-}
-
-// A word of 32 bits, which is the line's word `place`.
-pub fn word32(word: &[u8], place: u8) -> Result<u32, WordFault>
-    ensures { result ≡ word_number place most32 word.now }
-{
-    Ok(number_in(word, place, u64::from(u32::MAX))? as u32)
-}
-
-fn number_in(word: &[u8], place: u8, most: u64) -> Result<u64, WordFault>
-    ensures value { result ≡ word_number place most word.now }
-    ensures bound { IfOk result (λ n. n ≤ most) }
-{
-    match read_decimal(word, most) {
-        Ok(n) => Ok(n),
-        Err(Misread::NotDecimal) => Err(WordFault::NotDecimal(place)),
-        Err(Misread::TooLarge) => Err(WordFault::TooLarge(place)),
     }
 }

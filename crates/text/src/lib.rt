@@ -1,16 +1,20 @@
 // Lines, words and decimal numbers in bytes that need not be text.
 #![tactic(auto)]
 
-ghost use Rattle.std.specs.Prelude.{◌≡◌, ◌<◌, ◌≤◌, true, not, [], length, drop, if◌then◌else◌, Some, None, MatchBool, ◌==◌, nat_le};
+ghost use Rattle.std.specs.Prelude.{◌≡◌, ℕ, ◌<◌, Bool, true, not, length, take, drop, if◌then◌else◌, Some, None, nat_le};
 ghost use Rattle.std.specs.List.{prefix_len};
 ghost use Rattle.std.specs.Str.{all_ascii_digits};
+ghost use Rattle.std.specs.Iterator.{YieldsFirstRef, item_count};
 ghost use Rattle.text.specs.Words.{blank, words_of, lines_of, uncommented};
+ghost use Rattle.text.specs.Left.{lines_left};
 ghost use Rattle.text.specs.Pieces.{Begins, Hands, Heads};
 ghost use Rattle.text.specs.Numbers.{decimal_in, number_after};
 
 mod fields;
+mod number;
 
-pub use fields::{WordFault, Words, word32};
+pub use fields::{WordFault, Words, word};
+pub use number::Number;
 
 // The first piece of some bytes, and what follows it.
 #[derive(Clone, Copy)]
@@ -20,28 +24,56 @@ pub struct Piece<'a> {
 }
 
 // Why a word is no number of its field.
-#[derive(Clone, Copy)]
+#[derive(Clone, Copy, Debug, PartialEq, Eq)]
 pub enum Misread {
     NotDecimal,
     TooLarge,
+}
+
+// The lines of some bytes that have not been taken yet.
+#[derive(Drop)]
+pub struct Lines<'a> {
+    pub rest: &'a [u8],
+}
+
+impl Lines<'_> {
+    // The lines of an input, from the first to the last.
+    pub fn of(input: &[u8]) -> Lines<'_>
+        ensures { lines_left result ≡ lines_of input.now }
+    {
+        Lines { rest: input }
+    }
+}
+
+impl<'a> Iterator for Lines<'a> {
+    type Item = &'a [u8];
+
+    ghost next_gives = { YieldsFirstRef lines_left };
+
+    ghost remaining = { item_count lines_left };
+
+    fn next(&mut self) -> Option<&'a [u8]> {
+        let line = next_line(self.rest)?;
+        self.rest = line.rest;
+        Some(line.first)
+    }
 }
 
 // The first line: lines end in a line feed, which the last one may lack.
 pub fn next_line(input: &[u8]) -> Option<Piece<'_>>
     ensures { Hands lines_of input.now result }
 {
-    if has_line(input) {
-        Some(first_line(input))
-    } else {
-        None
+    if input.is_empty() {
+        return None;
     }
+    Some(first_line(input))
 }
 
 // The part of a line before its comment, which begins with `#`.
 pub fn before_comment(line: &[u8]) -> &[u8]
     ensures { result.now ≡ uncommented line.now }
 {
-    let (front, _) = line.split_at(count_before(line, b'#'));
+    let (front, _) = split_while(line, |byte| byte != b'#');
     front
 }
 
@@ -51,10 +83,9 @@ pub fn next_word(line: &[u8]) -> Option<Piece<'_>>
 {
     let tail = skip_blanks(line);
     if tail.is_empty() {
-        None
-    } else {
-        Some(first_word(tail))
+        return None;
     }
+    Some(first_word(tail))
 }
 
 // The number that a word of decimal digits writes, if it is at most `most`.
@@ -64,33 +95,36 @@ pub fn read_decimal(word: &[u8], most: u64) -> Result<u64, Misread>
     if word.is_empty() || !all_digits(word) {
         return Err(Misread::NotDecimal);
     }
-    match value_within(word, most) {
-        Some(value) => Ok(value),
-        None => Err(Misread::TooLarge),
-    }
+    value_within(word, most).ok_or(Misread::TooLarge)
 }
 
-fn has_line(input: &[u8]) -> bool
-    ensures { MatchBool result (0 < length input.now) (lines_of input.now ≡ []) }
+fn all_digits(word: &[u8]) -> bool
+    ensures { result ≡ all_ascii_digits word.now }
 {
-    !input.is_empty()
+    word.iter().all(u8::is_ascii_digit)
 }
 
 fn first_line(input: &[u8]) -> Piece<'_>
     requires { 0 < length input.now }
     ensures { Heads lines_of input.now result }
 {
-    let (first, tail) = input.split_at(count_before(input, b'\n'));
+    let (first, tail) = split_while(input, |byte| byte != b'\n');
     Piece {
         first,
         rest: after_first(tail),
     }
 }
 
+fn after_first(bytes: &[u8]) -> &[u8]
+    ensures { result.now ≡ drop 1 bytes.now }
+{
+    bytes.get(1..).unwrap_or(bytes)
+}
+
 fn skip_blanks(line: &[u8]) -> &[u8]
     ensures { Begins line.now result.now }
 {
-    let (_, tail) = line.split_at(count_blanks(line));
+    let (_, tail) = split_while(line, is_blank);
     tail
 }
 
@@ -99,7 +133,7 @@ fn first_word(tail: &[u8]) -> Piece<'_>
     requires { 0 < prefix_len (λ c. not (blank c)) tail.now }
     ensures { Heads words_of tail.now result }
 {
-    let (first, rest) = tail.split_at(count_letters(tail));
+    let (first, rest) = split_while(tail, |byte| !is_blank(byte));
     Piece { first, rest }
 }
 
@@ -108,74 +142,23 @@ fn value_within(word: &[u8], most: u64) -> Option<u64>
     requires { all_ascii_digits word.now ≡ true }
     ensures { result ≡ (if nat_le (number_after 0 word.now) most then Some (number_after 0 word.now) else None) }
 {
-    let mut value = 0;
+    let mut value: u64 = 0;
     for digit in word {
-        let next = u128::from(value) * 10 + u128::from(*digit - b'0');
-        if next > u128::from(most) {
-            return None;
-        }
-        value = next as u64;
+        value = value
+            .checked_mul(10)?
+            .checked_add(u64::from(*digit - b'0'))?;
     }
-    Some(value)
+    (value <= most).then_some(value)
 }
 
-fn all_digits(word: &[u8]) -> bool
-    ensures { result ≡ all_ascii_digits word.now }
+// The bytes before the first that fails a test, and the others.
+fn split_while<F: Fn(u8) -> bool>(bytes: &[u8], passes: F) -> (&[u8], &[u8])
+    requires { (state : F) (c : ℕ) → F.pre state c }
+    ensures front { (test : ℕ → Bool) → ((c : ℕ) (r : Bool) → F.post passes c r → r ≡ test c) → result.0.now ≡ take (prefix_len test bytes.now) bytes.now }
+    ensures back { (test : ℕ → Bool) → ((c : ℕ) (r : Bool) → F.post passes c r → r ≡ test c) → result.1.now ≡ drop (prefix_len test bytes.now) bytes.now }
 {
-    for byte in word {
-        if !byte.is_ascii_digit() {
-            return false;
-        }
-    }
-    true
-}
-
-fn after_first(bytes: &[u8]) -> &[u8]
-    ensures { result.now ≡ drop 1 bytes.now }
-{
-    match bytes {
-        [_, rest @ ..] => rest,
-        [] => bytes,
-    }
-}
-
-// How many bytes stand before the first `mark`.
-fn count_before(bytes: &[u8], mark: u8) -> usize
-    ensures value { result ≡ prefix_len (λ c. not (c == mark)) bytes.now }
-    ensures bound { result ≤ length bytes.now }
-{
-    for (i, byte) in bytes.iter().enumerate() {
-        if *byte == mark {
-            return i;
-        }
-    }
-    bytes.len()
-}
-
-// How many blanks a line begins with.
-fn count_blanks(line: &[u8]) -> usize
-    ensures value { result ≡ prefix_len blank line.now }
-    ensures bound { result ≤ length line.now }
-{
-    for (i, byte) in line.iter().enumerate() {
-        if !is_blank(*byte) {
-            return i;
-        }
-    }
-    line.len()
-}
-
-// How many letters the word has that a line begins with.
-fn count_letters(line: &[u8]) -> usize
-    ensures value { result ≡ prefix_len (λ c. not (blank c)) line.now }
-    ensures bound { result ≤ length line.now }
-{
-    for (i, byte) in line.iter().enumerate() {
-        if is_blank(*byte) {
-            return i;
-        }
-    }
-    line.len()
+    let end = bytes.iter().position(|byte| !passes(*byte));
+    bytes.split_at(end.unwrap_or(bytes.len()))
 }
 
 fn is_blank(byte: u8) -> bool

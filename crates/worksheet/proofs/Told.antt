@@ -1,9 +1,11 @@
-use Rattle.std.proofs.Common.{◌≡◌, ℕ, ◌+◌, List, [], ◌∷◌, ◌++◌, ℤ, codes, sym, refl, ap, ◌∙◌, append_assoc, append-nil, add-one, arith}
+use Rattle.std.proofs.Common.{◌≡◌, ℕ, ◌+◌, ◌≤◌, ◌==◌, length, List, [], ◌∷◌, ◌++◌, ℤ, codes, sym, refl, ap, ◌∙◌, append_assoc, append-nil, add-one, arith}
 use Rattle.std.specs.Fmt.{signed_decimal}
+use Rattle.std.proofs.lemmas.Bool.{cond_both}
+use Rattle.text.specs.Words.{lines_after, lines_of}
 use Rattle.rules.specs.Meaning.{Meaning}
 use Rattle.worksheet.specs.Figures.{shares_text}
 use Rattle.worksheet.specs.Lines.{line_text, line_outcome}
-use Rattle.worksheet.specs.Tables.{Under, lines_text, tally_from, tally_text, counted}
+use Rattle.worksheet.specs.Tables.{Under, lines_text, tally_from, counts_text, tally_text, counted}
 use Rattle.worksheet.specs.declared.Outcome.{Outcome}
 use Rattle.worksheet.specs.declared.Outcome.TheVariants.{Blank, Split, Unlawful, Malformed, Differing}
 use Rattle.worksheet.specs.declared.Tally.{Tally}
@@ -33,8 +35,8 @@ unfolding tally_from
 tally_from_more m k t l ls = refl
 
 -- one more share is written
-pub shares_push : (share : ℕ → ℤ) (n : ℕ) (before word after : List ℕ) (z : ℤ) → before ≡ shares_text share n → word ≡ codes " " ++ signed_decimal z → z ≡ share n → after ≡ before ++ word → after ≡ shares_text share (n + 1)
-shares_push share n before word after z so is same push = let more = shares_text_more share n in cc
+pub shares_push : (share : ℕ → ℤ) (n : ℕ) (before after : List ℕ) (z : ℤ) → before ≡ shares_text share n → z ≡ share n → after ≡ before ++ (codes " " ++ signed_decimal z) → after ≡ shares_text share (n + 1)
+shares_push share n before after z so same push = let more = shares_text_more share n in cc
 
 -- one line is answered, of those that are left
 module _ (m k : Meaning) (n : ℕ) (line : List ℕ) (rest left all : List (List ℕ)) (split : left ≡ line ∷ rest) where
@@ -64,3 +66,17 @@ table_all m k n t start left all text last after none so tally is push =
     let whole : text ≡ lines_text m k 1 all = sym (append-nil text) ∙ (ap (λ w. text ++ w) (sym empty) ∙ so) in
     let sum : t ≡ tally_from m k start all = sym (tally_from_none m k t) ∙ (ap (tally_from m k t) (sym none) ∙ tally) in
     push ∙ (ap (λ w. w ++ last) whole ∙ ap (λ w. lines_text m k 1 all ++ w) (is ∙ ap tally_text sum))
+
+-- no input has more lines than bytes but one
+lines_few_after : (l cs : List ℕ) → length (lines_after l cs) ≤ length cs + 1
+lines_few_after [] [] = omega arith
+lines_few_after (b ∷ l) [] = omega arith
+lines_few_after l (c ∷ cs) =
+    cond_both (c == 10) (l ∷ lines_after [] cs) (lines_after (l ++ c ∷ []) cs) (λ (ls : List (List ℕ)). length ls ≤ length (c ∷ cs) + 1) (λ _. omega (arith, lines_few_after [] cs)) (λ _. omega (arith, lines_few_after (l ++ c ∷ []) cs))
+
+pub lines_few : (cs : List ℕ) → length (lines_of cs) ≤ length cs + 1
+lines_few cs = lines_few_after [] cs
+
+-- the counts and a line feed are a table's last line
+pub counts_line : (t : Tally) → counts_text t ++ codes "\n" ≡ tally_text t
+counts_line t = simp append_assoc

@@ -25,6 +25,11 @@ counted t Unlawful = tally_of t.split (t.unlawful + 1) t.malformed t.differing
 counted t Malformed = tally_of t.split t.unlawful (t.malformed + 1) t.differing
 counted t Differing = tally_of t.split t.unlawful t.malformed (t.differing + 1)
 
+-- the counts of a tally
+abbrev pub counts_text : Tally → List ℕ
+counts_text t =
+    codes "split " ++ (decimal t.split ++ (codes ", unlawful " ++ (decimal t.unlawful ++ (codes ", malformed " ++ (decimal t.malformed ++ (codes ", differing " ++ decimal t.differing))))))
+
 -- a table's last line
 abbrev pub tally_text : Tally → List ℕ
 tally_text t =

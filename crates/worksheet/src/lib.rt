@@ -1,20 +1,21 @@
 // A table of half hours, answered line by line: each is split by a rule, beside a second rule that checks it.
 #![tactic(auto)]
 
-ghost use Rattle.std.specs.Prelude.{◌≡◌, ◌-◌, ◌^◌, IfOk, if◌then◌else◌, string_bytes};
+ghost use Rattle.std.specs.Prelude.{◌≡◌, Some, ◌-◌, ◌^◌, IfOk, if◌then◌else◌, string_bytes};
 ghost use Rattle.entries.specs.Held.{held};
 ghost use Rattle.worksheet.specs.declared.Outcome.TheVariants.{Split, Unlawful};
 ghost use Rattle.worksheet.specs.Figures.{figure_text};
 ghost use Rattle.worksheet.specs.Lines.{Answers, compared_text, compared_outcome, half_text, half_outcome, line_text, line_outcome};
-ghost use Rattle.worksheet.specs.Tables.{Under, counted, tally_text, table_text};
+ghost use Rattle.worksheet.specs.Tables.{Under, counted, counts_text, table_text};
 
 use entries::{HalfHour, Unread, read_half_hour};
 use rules::Rule;
 use std::alloc::{AllocError, Global};
-use text::{before_comment, next_line, next_word};
+use std::fmt;
+use text::{Lines, before_comment, next_word};
 
 // What a line of the table came to.
-#[derive(Clone, Copy)]
+#[derive(Clone, Copy, PartialEq, Eq, Debug)]
 pub enum Outcome {
     Blank,
     Split,
@@ -24,7 +25,7 @@ pub enum Outcome {
 }
 
 // What is printed for a line, and what the line came to.
-#[derive(Drop)]
+#[derive(PartialEq, Eq, Debug, Drop)]
 pub struct Answer {
     pub text: String,
     pub outcome: Outcome,
@@ -39,10 +40,10 @@ fn figure<R: Rule>(heap: Global, rule: &R, half: &HalfHour) -> Result<String, Al
         return String::from_str(heap, " unlawful");
     }
     let mut text = String::new(heap);
+    // a share is asked for by the number of a place
     for place in 0..row.nominations.len() {
         let share = rule.share(row, half.period, half.energy, place);
-        let word = format!(in heap; " {share}")?;
-        text.push_str(word.as_str())?;
+        write!(text, " {share}")?;
     }
     Ok(text)
 }
@@ -119,12 +120,12 @@ pub fn answer_line<R: Rule, S: Rule>(
             text: format!(in heap; "line {number}: {fault}\n")?,
             outcome: Outcome::Malformed,
         }),
-        Err(Unread::NoMemory) => Err(AllocError),
+        Err(Unread::NoMemory(refused)) => Err(refused),
     }
 }
 
 // How many half hours were split, and how many lines were otherwise.
-#[derive(Clone, Copy)]
+#[derive(Clone, Copy, Default)]
 struct Tally {
     split: u64,
     unlawful: u64,
@@ -145,18 +146,21 @@ impl Tally {
             Outcome::Differing => self.differing += 1,
         }
     }
+}
 
-    fn line(self, heap: Global) -> Result<String, AllocError>
-        ensures { IfOk result (λ s. string_bytes s ≡ tally_text self) }
-    {
+impl fmt::Display for Tally {
+    ghost output = { λ tally. Some (counts_text tally) };
+
+    fn fmt<W: fmt::Write>(&self, f: &mut fmt::Formatter<W>) -> fmt::Result {
         let Tally {
             split,
             unlawful,
             malformed,
             differing,
-        } = self;
-        format!(in heap;
-            "split {split}, unlawful {unlawful}, malformed {malformed}, differing {differing}\n"
+        } = *self;
+        write!(
+            f,
+            "split {split}, unlawful {unlawful}, malformed {malformed}, differing {differing}"
         )
     }
 }
@@ -171,24 +175,12 @@ pub fn answer_table<R: Rule, S: Rule>(
     ensures { IfOk result (λ s. string_bytes s ≡ table_text (R.Rule.meaning rule.now) (S.Rule.meaning second.now) input.now) }
 {
     let mut text = String::new(heap);
-    let mut tally = NONE;
-    let mut number = 1;
-    let mut rest = input;
-    while let Some(line) = next_line(rest) {
-        let answer = answer_line(heap, rule, second, number, line.first)?;
+    let mut tally = Tally::default();
+    for (number, line) in (1..).zip(Lines::of(input)) {
+        let answer = answer_line(heap, rule, second, number, line)?;
         text.push_str(answer.text.as_str())?;
         tally.count(answer.outcome);
-        number += 1;
-        rest = line.rest;
     }
-    let last = tally.line(heap)?;
-    text.push_str(last.as_str())?;
+    writeln!(text, "{tally}")?;
     Ok(text)
 }
-
-const NONE: Tally = Tally {
-    split: 0,
-    unlawful: 0,
-    malformed: 0,
-    differing: 0,
-};

@@ -1,7 +1,26 @@
-use Rattle.dayrun.specs.Calls.{start}
+use Rattle.std.proofs.Common.{◌≡◌, ℕ, replicate, ap, ◌∙◌}
+use Rattle.domain.specs.Checks.{no_reading, no_volume}
+use Rattle.domain.specs.declared.AllocationRow.{AllocationRow}
+use Rattle.history.specs.declared.Dated.{Dated}
+use Rattle.book.specs.Kept.{opened}
+use Rattle.season.specs.Outcomes.{state_of}
+use Rattle.season.specs.Steps.{State}
+use Rattle.dayrun.specs.Calls.{no_holder, no_row, no_line, day_sent, site_terms, start}
+use Rattle.dayrun.specs.Files.{readings_in}
 use Rattle.dayrun.proofs.Chain.{put_more}
 use Rattle.dayrun.proofs.put_day.Goals as goal
 
-pub returns : goal.returns
+-- blank tables, all holders one and all rows one
+abbrev blank : Dated ℕ → Dated AllocationRow → State
+blank holder row = state_of opened (replicate 2 holder) (replicate 48 row) (replicate 48 no_reading) (replicate 96 no_volume) (replicate 192 no_line)
+
+begun : (holder : Dated ℕ) (row : Dated AllocationRow) → holder ≡ no_holder → row ≡ no_row → blank holder row ≡ start
 unfolding start
-returns c = put_more c.put_answer.result _ _ c.run_day-answer.ensures c.put_answer.ensures
+begun holder row h r = ap (λ x. blank x row) h ∙ ap (blank no_holder) r
+
+pub returns : goal.returns
+returns c =
+    let intro = c.args.files.schedule.intro in
+    let rs = readings_in c.args.files.readings.records.bytes.now in
+    let same = ap (λ st. day_sent site_terms st intro.sender intro.day intro.moment c.args.schedule.now rs) (begun c.blank-holders.result c.blank-rows.result c.blank-holders.ensures c.blank-rows.ensures) in
+    put_more c.put_answer.result _ _ (c.run_day-answer.ensures ∙ same) c.put_answer.ensures

@@ -3,5 +3,5 @@ use Rattle.std.specs.List.{flat_map}
 use Rattle.dayrun.specs.Texts.{line_text}
 use Rattle.dayrun.proofs.put_lines.Given as goal
 
-abbrev pub invariant-loop-index : goal.invariant-loop-index
-invariant-loop-index l = string_bytes l.text ≡ string_bytes l.initial.text ++ flat_map line_text (take l.index l.journal)
+abbrev pub invariant-loop-line : goal.invariant-loop-line
+invariant-loop-line l = string_bytes l.text ≡ string_bytes l.initial.text ++ flat_map line_text (take l.line-index l.lines)

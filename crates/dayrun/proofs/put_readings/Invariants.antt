@@ -1,5 +1,4 @@
-use Rattle.std.proofs.Common.{◌≡◌, ◌-◌, ◌/◌, ◌≤◌, length, drop}
-use Rattle.files.specs.Records.{reading_size}
+use Rattle.std.proofs.Common.{◌≡◌}
 use Rattle.book.specs.Kept.{kept}
 use Rattle.dayrun.specs.Files.{readings_in}
 use Rattle.dayrun.specs.Calls.{reading_all}
@@ -7,8 +6,4 @@ use Rattle.dayrun.proofs.put_readings.Given as goal
 
 abbrev pub invariant-loop-reading : goal.invariant-loop-reading
 invariant-loop-reading l =
-    (l.index ≤ length l.file.records.now / reading_size)
-    × (reading_all l.book.terms (kept l.book) l.table (drop l.index (readings_in l.file.records.now)) ≡ reading_all l.book.terms (kept l.book) l.initial.table (readings_in l.file.records.now))
-
-abbrev pub decreases-loop-reading : goal.decreases-loop-reading
-decreases-loop-reading l = length l.file.records.now / reading_size - l.index
+    reading_all l.book.terms (kept l.book) l.table (readings_in l.reading-iterator.bytes.now) ≡ reading_all l.book.terms (kept l.book) l.initial.table (readings_in l.fn.file.records.bytes.now)

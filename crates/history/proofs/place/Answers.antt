@@ -1,27 +1,24 @@
-use Rattle.std.proofs.Common.{◌<◌, length, sym, ◌∙◌, arith, rules}
-use Rattle.history.proofs.Placing.{found_in_table, put_over, put_behind}
+use Rattle.std.proofs.Common.{◌≡◌, ◌+◌, ◌<◌, cond, length, is_some, ap, rules}
+use Rattle.history.proofs.Placing.{count_after, put_there}
 use Rattle.history.proofs.place.Goals as goal
 
-pub offset_bounds-entries-i : goal.offset_bounds-entries-i
-offset_bounds-entries-i g c =
-    let within : c.in-Some.i < length c.args.entries.now = found_in_table c.args.entries.now c.args.count c.args.dated c.requires.held c.args.dated.subject c.args.dated.day c.in-Some.i (sym c.requires.at ∙ c.in-Some.is) in
+pub offset_bounds-entries-unwrap_or : goal.offset_bounds-entries-unwrap_or
+offset_bounds-entries-unwrap_or g c =
+    let there = put_there c.args.entries.now c.args.count c.args.dated c.requires.held c.args.at c.requires.at c.requires.room in
+    let within : c.unwrap_or.result < length c.args.entries.now = rw c.unwrap_or.ensures there.0 in
     search rules
 
-pub bounds-entries-i : goal.bounds-entries-i
-bounds-entries-i g c =
-    found_in_table c.args.entries.now c.args.count c.args.dated c.requires.held c.args.dated.subject c.args.dated.day c.in-Some.i (sym c.requires.at ∙ c.in-Some.is)
+pub bounds-entries-unwrap_or : goal.bounds-entries-unwrap_or
+bounds-entries-unwrap_or g c =
+    let there = put_there c.args.entries.now c.args.count c.args.dated c.requires.held c.args.at c.requires.at c.requires.room in
+    rw c.unwrap_or.ensures there.0
 
-pub bounds-entries-count : goal.bounds-entries-count
-bounds-entries-count g c =
-    let put = put_behind c.args.entries.now c.args.count c.args.dated c.requires.held (sym c.requires.at ∙ c.in-None.is) in
-    omega arith
-
-pub returns-in-Some : goal.returns-in-Some
-returns-in-Some g c =
-    let put = put_over c.args.entries.now c.args.count c.args.dated c.requires.held c.in-Some.i (sym c.requires.at ∙ c.in-Some.is) in
-    record { count = sym put.0; after = put.1 }
-
-pub returns-in-None : goal.returns-in-None
-returns-in-None g c =
-    let put = put_behind c.args.entries.now c.args.count c.args.dated c.requires.held (sym c.requires.at ∙ c.in-None.is) in
-    record { count = sym put.0; after = put.1 (omega arith) }
+pub returns : goal.returns
+returns g c =
+    let e = c.args.entries.now in
+    let there = put_there e c.args.count c.args.dated c.requires.held c.args.at c.requires.at c.requires.room in
+    let more : c.from.result ≡ cond (is_some c.args.at) 0 1 = search rules in
+    record {
+      count = count_after e c.args.count c.args.dated c.requires.held c.requires.at (ap (λ n. c.args.count + n) more);
+      after = rw c.unwrap_or.ensures there.1;
+    }

@@ -1,4 +1,4 @@
-use Rattle.std.proofs.Common.{◌≡◌, take, refl, ap, ◌∙◌, arith}
+use Rattle.std.proofs.Common.{◌≡◌, ◌+◌, cond, is_some, take, refl, ap, ◌∙◌, arith, rules}
 use Rattle.history.specs.Entries.{found}
 use Rattle.history.specs.Puts.{put_one}
 use Rattle.history.proofs.Placing.{count_after, take-holding, room_for_lem, no_room_for}
@@ -11,9 +11,10 @@ returns-then-needed-entries g c =
     let n = c.args.count in
     let x = c.args.dated in
     let held = c.in_ok-held.ensures in
+    let more : c.from.result ≡ cond (is_some c.find-at.result) 0 1 = search rules in
     let is : c.find-at.result ≡ found (take n e) x.subject x.day = rw held.1 at c.find-at.ensures.is in
     record {
-      result = no_room_for e (put_one (take n e) x) c.args.table n c.count_after-needed.result held.0 (count_after e n x held.0 is c.count_after-needed.ensures) c.if-needed-entries.true;
+      result = no_room_for e (put_one (take n e) x) c.args.table n (n + c.from.result) held.0 (count_after e n x held.0 is (ap (λ k. n + k) more)) c.if-needed-entries.true;
       after = refl;
       says = refl;
     }
@@ -24,8 +25,9 @@ place-requires g c =
     let n = c.args.count in
     let x = c.args.dated in
     let held = c.in_ok-held.ensures in
+    let more : c.from.result ≡ cond (is_some c.find-at.result) 0 1 = search rules in
     let is : c.find-at.result ≡ found (take n e) x.subject x.day = rw held.1 at c.find-at.ensures.is in
-    let needed = count_after e n x held.0 is c.count_after-needed.ensures in
+    let needed = count_after e n x held.0 is (ap (λ k. n + k) more) in
     record { held = held.0; at = is; room = omega arith }
 
 pub returns : goal.returns
@@ -35,8 +37,9 @@ returns g c =
     let x = c.args.dated in
     let h = put_one (take n e) x in
     let held = c.in_ok-held.ensures in
+    let more : c.from.result ≡ cond (is_some c.find-at.result) 0 1 = search rules in
     let is : c.find-at.result ≡ found (take n e) x.subject x.day = rw held.1 at c.find-at.ensures.is in
-    let needed = count_after e n x held.0 is c.count_after-needed.ensures in
+    let needed = count_after e n x held.0 is (ap (λ k. n + k) more) in
     let put : take c.place.result c.place.new.entries ≡ h = ap (take c.place.result) c.place.ensures.after ∙ take-holding h e c.place.result c.place.ensures.count in
     record {
       result = room_for_lem e h c.args.table n c.place.result held.0 c.place.ensures.count (omega arith);

@@ -1,12 +1,7 @@
-use Rattle.std.proofs.Common.{sum, ap, ◌∙◌, arith, take_all, below_more}
-use Rattle.std.proofs.lemmas.List.Sums.{sum_by_more}
+use Rattle.std.proofs.Common.{◌≡◌, true, sum, nat_lt, ap, ◌∙◌, arith, take_all}
+use Rattle.std.proofs.lemmas.Bool.Decides.{nat_tests}
 use Rattle.rules.specs.Blocked.{modest_from, immodest}
 use Rattle.rules.proofs.modest_sum.Goals as goal
-
-pub loop-nomination-preserved : goal.loop-nomination-preserved
-loop-nomination-preserved c =
-    let more = sum_by_more (λ x. x) c.args.nominations.now c.loop-nomination.nomination-index 0 c.loop-nomination-test.true in
-    (omega arith, omega arith, below_more _ _ c.loop-nomination.invariant.2 c.if-nomination-gt-MAX_KWH.false)
 
 pub returns-then-nomination-gt-MAX_KWH : goal.returns-then-nomination-gt-MAX_KWH
 returns-then-nomination-gt-MAX_KWH c =
@@ -17,4 +12,5 @@ returns c =
     let ns = c.args.nominations.now in
     let all = modest_from ns (λ i h. c.loop-nomination.invariant.2 i (omega arith)) in
     let same = c.loop-nomination.invariant.0 ∙ ap sum (take_all c.loop-nomination.nomination-index ns c.loop-nomination-test.false) in
-    rw (all, same)
+    let small : nat_lt (sum ns) 4294967296 ≡ true = grind (arith, nat_tests) in
+    rw (all, small, same)

@@ -1,11 +1,14 @@
 use Rattle.std.proofs.Common.{◌≡◌, Bool, length, string_bytes}
-use Rattle.text.specs.Words.{lines_of}
+use Rattle.text.specs.Left.{lines_left}
+use Rattle.seasontext.specs.Openings.{HasNumbers}
 use Rattle.seasontext.specs.Seasons.{until_terms}
 use Rattle.seasontext.proofs.find_terms.Given as goal
 
-abbrev pub invariant-loop-line : goal.invariant-loop-line
-invariant-loop-line l =
-    (quiet : Bool) → until_terms quiet l.number (string_bytes l.text) (lines_of l.rest) ≡ until_terms quiet 1 (string_bytes l.initial.text) (lines_of l.input)
+abbrev pub invariant-loop-number : goal.invariant-loop-number
+invariant-loop-number l = record {
+  room : HasNumbers l.lines.a.start (lines_left l.lines.b);
+  so_far : (quiet : Bool) → until_terms quiet l.lines.a.start (string_bytes l.text) (lines_left l.lines.b) ≡ until_terms quiet l.initial.lines.a.start (string_bytes l.initial.text) (lines_left l.initial.lines.b);
+}
 
-abbrev pub decreases-loop-line : goal.decreases-loop-line
-decreases-loop-line l = length l.rest
+abbrev pub decreases-loop-number : goal.decreases-loop-number
+decreases-loop-number l = length (lines_left l.lines.b)

@@ -1,20 +1,14 @@
-use Rattle.std.proofs.Common.{sym, ◌∙◌}
+use Rattle.std.proofs.lemmas.Iterator.{YieldsList-from_slice}
+use Rattle.std.proofs.lemmas.Iterator.Search.{all_from_yields_List}
+use Rattle.std.proofs.lemmas.List.Recursion.{same_from_clauses}
+use Rattle.std.proofs.Common.{◌∙◌, ◌&&◌, rules, tests, refl}
+use Rattle.std.specs.Char.{is_ascii_digit}
+use Rattle.std.specs.List.{list_all}
 use Rattle.std.specs.Str.{all_ascii_digits}
-use Rattle.std.proofs.lemmas.List.{at_drop_all}
-use Rattle.text.proofs.Numbered.{digits_more, digits_stop}
 use Rattle.text.proofs.all_digits.Goals as goal
-
-pub returns-then-not-is_ascii_digit : goal.returns-then-not-is_ascii_digit
-returns-then-not-is_ascii_digit c =
-    let stop = digits_stop c.args.word.now c.loop-byte.byte-index c.loop-byte-test.true (sym c.if-not-is_ascii_digit.ensures.value) in
-    sym stop ∙ c.loop-byte.invariant
-
-pub loop-byte-preserved : goal.loop-byte-preserved
-loop-byte-preserved c =
-    let more = digits_more c.args.word.now c.loop-byte.byte-index c.loop-byte-test.true (sym c.if-not-is_ascii_digit.ensures.value) in
-    sym more ∙ c.loop-byte.invariant
 
 pub returns : goal.returns
 returns c =
-    let all = at_drop_all all_ascii_digits c.args.word.now c.loop-byte.byte-index c.loop-byte-test.false in
-    sym all ∙ c.loop-byte.invariant
+    let word = c.args.word.now in
+    all_from_yields_List is_ascii_digit _ _ _ c.all.ensures.ran (YieldsList-from_slice word cc) (λ x b q k. search (rules, tests))
+    ∙ same_from_clauses (list_all is_ascii_digit) all_ascii_digits (λ x r. is_ascii_digit x && r) refl (λ _ _. refl) (λ _ _. refl) word

@@ -1,6 +1,6 @@
-use Rattle.text.proofs.Pieced.{line_cut}
+use Rattle.std.proofs.Common.{rules, tests}
+use Rattle.text.proofs.Pieced.{inside, line_cut}
 use Rattle.text.proofs.first_line.Goals as goal
 
 pub returns : goal.returns
-returns c =
-    line_cut c.args.input.now c.split_at.result.0.now c.split_at.result.1.now c.after_first.result.now c.count_before.result c.requires c.count_before.ensures.value c.split_at.ensures.front c.split_at.ensures.back c.after_first.ensures
+returns c = line_cut _ _ _ _ c.requires (c.split_while.ensures.front inside (λ x r e. search (rules, tests))) (c.split_while.ensures.back inside (λ x r e. search (rules, tests))) c.after_first.ensures

@@ -1,7 +1,6 @@
-use Rattle.std.proofs.Common.{arith}
-use Rattle.text.proofs.Pieced.{word_cut}
+use Rattle.std.proofs.Common.{rules, tests}
+use Rattle.text.proofs.Pieced.{letter, word_cut}
 use Rattle.text.proofs.first_word.Goals as goal
 
 pub returns : goal.returns
-returns c =
-    word_cut c.args.tail.now c.split_at.result.0.now c.split_at.result.1.now c.count_letters.result c.count_letters.ensures.value c.split_at.ensures.front c.split_at.ensures.back c.count_letters.ensures.bound (omega arith)
+returns c = word_cut _ _ _ (c.split_while.ensures.front letter (λ x r e. search (rules, tests))) (c.split_while.ensures.back letter (λ x r e. search (rules, tests))) c.requires

@@ -19,10 +19,10 @@ returns g c =
     let j = c.args.journal.now in
     let d = c.args.day in
     let r = c.issue.result in
-    let s = c.standing-standing.ensures in
+    let s = c.standing.ensures in
     record {
       answer = c.issue.ensures.answer ∙ ap (λ (k : Standing). issue_answer m t k hs rs rd is (length j) d c.args.run) s;
       issued = c.issue.ensures.issued ∙ ap (λ (k : Standing). settled r (issued_after m t k hs rs rd is d) is) s;
       journal = c.issue.ensures.journal ∙ ap (λ (k : Standing). settled r (posted j k.lines (day_lines m t k hs rs rd is d c.args.run)) j) s;
-      room = room_made m t c.standing-standing.result hs rs rd is (length j) d c.args.run c.args.self.now.lines r (ap (λ (k : Standing). k.lines) s) c.issue.ensures.answer;
+      room = room_made m t c.standing.result hs rs rd is (length j) d c.args.run c.args.self.now.lines r (ap (λ (k : Standing). k.lines) s) c.issue.ensures.answer;
     }

@@ -7,8 +7,8 @@ use Rattle.issuing.proofs.checks.complete_holders.Goals as goal
 pub loop-place-init : goal.loop-place-init
 loop-place-init c = first_none _
 
-pub returns-then-missing : goal.returns-then-missing
-returns-then-missing c =
+pub returns-then-is_none : goal.returns-then-is_none
+returns-then-is_none c =
     let hs = c.args.holders.now in
     let q = c.loop-place.place in
     let e : (needs_holder c.args.ended q && not (is_some (get_or hs q None))) ≡ true = search rules in

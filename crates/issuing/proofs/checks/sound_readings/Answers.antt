@@ -1,19 +1,21 @@
-use Rattle.std.proofs.Common.{◌≡◌, ℕ, ◌+◌, true, get_or, sym, ap, ◌∙◌, rules}
+use Rattle.std.proofs.Common.{ℕ, ◌+◌, get_or, refl, ap, arith, rules, tests}
+use Rattle.std.proofs.lemmas.Iterator.{YieldsList-from_slice}
+use Rattle.std.proofs.lemmas.Iterator.Search.{any_from_yields_List}
 use Rattle.domain.specs.Limits.{periods}
-use Rattle.domain.specs.Checks.{reading_at, spoiled_reading, no_reading}
+use Rattle.domain.specs.Checks.{reading_at, no_reading, spoiled_reading}
 use Rattle.domain.specs.declared.Table.TheVariants.{Readings}
 use Rattle.domain.specs.declared.Fault.TheVariants.{Spoiled}
-use Rattle.issuing.proofs.Firsts.{first_none, first_more, found_here}
+use Rattle.issuing.proofs.Firsts.{part_found, part_sound}
 use Rattle.issuing.proofs.checks.sound_readings.Goals as goal
 
-pub loop-i-init : goal.loop-i-init
-loop-i-init c = first_none _
-
-pub returns-then-spoiled : goal.returns-then-spoiled
-returns-then-spoiled c =
+pub returns-then-any : goal.returns-then-any
+returns-then-any c =
     let rs = c.args.readings.now in
-    let e : spoiled_reading (reading_at rs c.args.day (c.loop-i.i + 1)) ≡ true = sym (c.if-spoiled.ensures ∙ ap (λ (k : ℕ). spoiled_reading (get_or rs k no_reading)) c.reading_slot.ensures) in
-    found_here (λ i. spoiled_reading (reading_at rs c.args.day (i + 1))) (λ _. Spoiled Readings) c.loop-i.i periods c.loop-i.invariant e c.loop-i-test.true
+    let any = any_from_yields_List spoiled_reading _ _ c.any.result c.any.ensures.ran (YieldsList-from_slice _ c.iter.ensures.rest) (λ x b q k. search (rules, tests)) in
+    part_found spoiled_reading rs no_reading (λ i. spoiled_reading (reading_at rs c.args.day (i + 1))) c.reading_slot-first.result 48 periods refl (omega arith) (λ i h. ap (λ (k : ℕ). spoiled_reading (get_or rs k no_reading)) (omega arith)) any (Spoiled Readings) c.if-any.true
 
-pub loop-i-preserved : goal.loop-i-preserved
-loop-i-preserved c = search (rules, first_more)
+pub returns : goal.returns
+returns c =
+    let rs = c.args.readings.now in
+    let any = any_from_yields_List spoiled_reading _ _ c.any.result c.any.ensures.ran (YieldsList-from_slice _ c.iter.ensures.rest) (λ x b q k. search (rules, tests)) in
+    part_sound spoiled_reading rs no_reading (λ i. spoiled_reading (reading_at rs c.args.day (i + 1))) c.reading_slot-first.result 48 periods refl (omega arith) (λ i h. ap (λ (k : ℕ). spoiled_reading (get_or rs k no_reading)) (omega arith)) any (Spoiled Readings) c.if-any.false

@@ -1,24 +1,22 @@
-use Rattle.std.proofs.Common.{◌≡◌, ℕ, ◌+◌, true, get_or, None, sym, ap, ◌∙◌, subst, arith, rules}
+use Rattle.std.proofs.Common.{ℕ, get_or, ap, arith, rules, tests}
+use Rattle.std.proofs.lemmas.Iterator.{YieldsList-from_slice}
+use Rattle.std.proofs.lemmas.Iterator.Search.{any_from_yields_List}
 use Rattle.domain.specs.Slots.{issued_slots}
-use Rattle.domain.specs.Checks.{spoiled_slot, no_volume}
+use Rattle.domain.specs.Checks.{no_volume, spoiled_slot}
 use Rattle.domain.specs.declared.Table.TheVariants.{Issued}
 use Rattle.domain.specs.declared.Fault.TheVariants.{Spoiled}
-use Rattle.issuing.specs.First.{first_where}
 use Rattle.issuing.specs.Slots.{slot_of_day}
-use Rattle.issuing.proofs.Firsts.{first_none, first_more, found_here}
+use Rattle.issuing.proofs.Firsts.{part_found, part_sound}
 use Rattle.issuing.proofs.checks.sound_slots.Goals as goal
 
-pub loop-i-init : goal.loop-i-init
-loop-i-init c = first_none _
-
-pub returns-then-spoiled : goal.returns-then-spoiled
-returns-then-spoiled c =
+pub returns-then-any : goal.returns-then-any
+returns-then-any c =
     let t = c.args.issued.now in
-    let i = c.loop-i.i in
-    let first = c.issued_slot-first.ensures in
-    let e : spoiled_slot (slot_of_day c.args.terms t c.args.day i) ≡ true = sym (c.if-spoiled.ensures ∙ ap (λ (k : ℕ). spoiled_slot (get_or t (k + i) no_volume)) first) in
-    let P : ℕ → Type 0 = λ k. first_where (λ j. spoiled_slot (get_or t (k + j) no_volume)) i ≡ None in
-    found_here (λ j. spoiled_slot (slot_of_day c.args.terms t c.args.day j)) (λ _. Spoiled Issued) i (issued_slots c.args.terms.places 1) (subst P first c.loop-i.invariant) e (omega (arith, c.loop-i-test.true, c.issued_slots-i-end.ensures))
+    let any = any_from_yields_List spoiled_slot _ _ c.any.result c.any.ensures.ran (YieldsList-from_slice _ c.iter.ensures.rest) (λ x b q k. search (rules, tests)) in
+    part_found spoiled_slot t no_volume (λ i. spoiled_slot (slot_of_day c.args.terms t c.args.day i)) c.issued_slot-first.result c.issued_slots.result (issued_slots c.args.terms.places 1) c.issued_slots.ensures (omega arith) (λ i h. ap (λ (k : ℕ). spoiled_slot (get_or t k no_volume)) (omega arith)) any (Spoiled Issued) c.if-any.true
 
-pub loop-i-preserved : goal.loop-i-preserved
-loop-i-preserved c = search (rules, first_more)
+pub returns : goal.returns
+returns c =
+    let t = c.args.issued.now in
+    let any = any_from_yields_List spoiled_slot _ _ c.any.result c.any.ensures.ran (YieldsList-from_slice _ c.iter.ensures.rest) (λ x b q k. search (rules, tests)) in
+    part_sound spoiled_slot t no_volume (λ i. spoiled_slot (slot_of_day c.args.terms t c.args.day i)) c.issued_slot-first.result c.issued_slots.result (issued_slots c.args.terms.places 1) c.issued_slots.ensures (omega arith) (λ i h. ap (λ (k : ℕ). spoiled_slot (get_or t k no_volume)) (omega arith)) any (Spoiled Issued) c.if-any.false

@@ -1,28 +1,26 @@
-use Rattle.std.proofs.Common.{arith}
+use Rattle.std.proofs.Common.{◌≡◌, pos, slice_index_or, arith, rules, ◌∙◌, w64, to_z, of_z}
 use Rattle.std.proofs.lemmas.Int.{ints}
+use Rattle.rules.specs.Blocks.{block_shares}
+use Rattle.rules.specs.Blocked.{block_here, block_there}
 use Rattle.recount.specs.Entered.{entered}
-use Rattle.recount.proofs.Room.{Ran, room_left, run_some, share_here, share_there, share_past}
+use Rattle.recount.proofs.Room.{run_booked, run_left, run_some, run_none}
 use Rattle.recount.proofs.Entry.run_down.Goals as goal
 
-pub returns-then-place-balance : goal.returns-then-place-balance
-returns-then-place-balance c =
-    let t = entered c.args.self in
-    let ran : Ran t c.args.least c.args.most c.in_ok-left.left = record { few = c.if-places-least.false; many = c.if-places-most.false; within = c.if-balance-places.false; leaves = c.if-self-balance-ne0.false; room = c.in_ok-left.ensures } in
-    let left = room_left t _ _ _ ran c.args.energy c.args.place in
-    let share = share_here t _ _ _ ran c.args.energy c.args.place c.if-place-balance.true in
-    run_some t _ _ _ ran c.args.energy c.args.place _ (omega (arith, ints))
+pub returns-in_err-left : goal.returns-in_err-left
+returns-in_err-left c =
+    c.from_residual.ensures ∙ run_none (entered c.args.self) c.args.least c.args.most _ c.args.energy c.args.place c.in_err-left.ensures
 
-pub returns-in-Some : goal.returns-in-Some
-returns-in-Some c =
+pub returns-then-place-from : goal.returns-then-place-from
+returns-then-place-from c =
     let t = entered c.args.self in
-    let ran : Ran t c.args.least c.args.most c.in_ok-left.left = record { few = c.if-places-least.false; many = c.if-places-most.false; within = c.if-balance-places.false; leaves = c.if-self-balance-ne0.false; room = c.in_ok-left.ensures } in
-    let found = c.in-Some.ensures.lookup in
-    let share = share_there t _ _ _ ran c.args.energy c.args.place c.if-place-balance.false c.in-Some.nomination.now (found.3.1 0) found.3.0 in
-    run_some t _ _ _ ran c.args.energy c.args.place _ (omega (arith, ints))
+    let b = run_booked t c.args.least c.args.most c.in_ok-left.left c.in_ok-left.ensures in
+    let left = run_left t c.args.least c.args.most c.in_ok-left.left c.in_ok-left.ensures in
+    let share = block_here t c.args.energy c.args.place b.within (omega arith) in
+    run_some t c.args.least c.args.most c.in_ok-left.left c.in_ok-left.ensures c.args.energy c.args.place _ (omega (arith, ints, b.room))
 
-pub returns-in-None : goal.returns-in-None
-returns-in-None c =
+pub returns : goal.returns
+returns c =
     let t = entered c.args.self in
-    let ran : Ran t c.args.least c.args.most c.in_ok-left.left = record { few = c.if-places-least.false; many = c.if-places-most.false; within = c.if-balance-places.false; leaves = c.if-self-balance-ne0.false; room = c.in_ok-left.ensures } in
-    let past = c.in-None.ensures.lookup in
-    run_some t _ _ _ ran c.args.energy c.args.place _ (share_past t _ _ _ ran c.args.energy c.args.place c.if-place-balance.false past.3)
+    let share = block_there t c.args.energy c.args.place (λ h. omega arith) in
+    let is : to_z w64 (of_z w64 c.from-2.result) ≡ slice_index_or (block_shares t c.args.energy) c.args.place (pos 0) = search (rules, share) in
+    run_some t c.args.least c.args.most c.in_ok-left.left c.in_ok-left.ensures c.args.energy c.args.place _ is

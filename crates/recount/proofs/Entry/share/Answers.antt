@@ -4,7 +4,7 @@ use Rattle.std.proofs.lemmas.Bool.{not-true, not-false}
 use Rattle.rules.specs.Meaning.{in_range}
 use Rattle.rules.specs.House.{house}
 use Rattle.recount.specs.Entered.{entered}
-use Rattle.recount.proofs.Peeled.{answered_out, answered_some, answered_none}
+use Rattle.recount.proofs.Peeled.{answered_out, answered_split}
 use Rattle.recount.proofs.Entry.share.Goals as goal
 
 pub returns-then-outside : goal.returns-then-outside
@@ -12,13 +12,8 @@ returns-then-outside c =
     let out : in_range c.args.period c.args.energy ≡ false = not-true _ (sym c.if-outside.ensures) in
     answered_out house (entered c.args.self) c.args.period c.args.energy c.args.place out
 
-pub returns-in-Some : goal.returns-in-Some
-returns-in-Some c =
+pub returns : goal.returns
+returns c =
     let within : in_range c.args.period c.args.energy ≡ true = not-false _ (sym c.if-outside.ensures) in
-    let same : to_z w64 (of_z w64 c.in-Some.share) ≡ c.in-Some.share = omega (arith, ints) in
-    same ∙ answered_some house (entered c.args.self) c.args.period c.args.energy c.args.place c.in-Some.share within c.in-Some.ensures
-
-pub returns-in-None : goal.returns-in-None
-returns-in-None c =
-    let within : in_range c.args.period c.args.energy ≡ true = not-false _ (sym c.if-outside.ensures) in
-    answered_none house (entered c.args.self) c.args.period c.args.energy c.args.place within c.in-None.ensures
+    let same : to_z w64 (of_z w64 c.unwrap_or.result) ≡ c.unwrap_or.result = omega (arith, ints) in
+    same ∙ c.unwrap_or.ensures ∙ answered_split house (entered c.args.self) c.args.period c.args.energy c.args.place c.by_method.result within c.by_method.ensures

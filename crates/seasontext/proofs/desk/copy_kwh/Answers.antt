@@ -1,14 +1,27 @@
-use Rattle.std.proofs.Common.{sym, arith}
+use Rattle.std.proofs.Common.{◌≡◌, ◌-◌, get_or, sym, refl, ap, ◌∙◌, arith}
+use Rattle.domain.specs.Checks.{no_reading}
+use Rattle.seasontext.specs.Runs.{copied}
 use Rattle.seasontext.proofs.Loops.{copied_none, copied_turn, copied_past}
 use Rattle.seasontext.proofs.desk.copy_kwh.Goals as goal
 use Rattle.seasontext.proofs.desk.copy_kwh.Goals.{then-slot-split, else-slot-split}
 
-pub loop-index-init : goal.loop-index-init
-loop-index-init c = sym (copied_none c.args.readings.now c.args.first c.args.split.now)
+pub loop-slot-init : goal.loop-slot-init
+loop-slot-init c =
+    let none : c.args.first - c.args.first ≡ 0 = omega arith in
+    record {
+      begun = omega arith;
+      so_far = sym (ap (λ k. copied c.args.readings.now c.args.first k c.args.split.now) none ∙ copied_none c.args.readings.now c.args.first c.args.split.now);
+    }
 
-pub loop-index-preserved : goal.loop-index-preserved
-loop-index-preserved c =
-    elim c.if-slot-split.branch [
-      | then-slot-split w ↦ copied_turn c.args.readings.now c.args.first c.loop-index.index c.kwh_at-kwh.result c.args.split.now c.loop-index.split c.if-slot-split.split c.kwh_at-kwh.ensures c.loop-index.invariant w.split-is
-      | else-slot-split w ↦ copied_past c.args.readings.now c.args.first c.loop-index.index c.kwh_at-kwh.result c.args.split.now c.loop-index.split c.if-slot-split.split c.kwh_at-kwh.ensures c.loop-index.invariant (omega (arith, w.if-slot-split.false)) w.split-is
-    ]
+pub loop-slot-preserved : goal.loop-slot-preserved
+loop-slot-preserved c =
+    let rs = c.args.readings.now in
+    let i = c.loop-slot.slot in
+    let at = c.loop-slot.invariant in
+    record {
+      begun = omega arith;
+      so_far = elim c.if-slot-split.branch [
+        | then-slot-split w ↦ copied_turn rs c.args.first i w.kwh_at.result c.args.split.now c.loop-slot.split c.if-slot-split.split at.begun w.kwh_at.ensures at.so_far w.split-is
+        | else-slot-split w ↦ copied_past rs c.args.first i (get_or rs i no_reading).kwh c.args.split.now c.loop-slot.split c.if-slot-split.split at.begun refl at.so_far (omega (arith, w.if-slot-split.false)) w.split-is
+      ];
+    }

@@ -1,14 +1,10 @@
-use Rattle.std.proofs.Common.{sym, arith}
-use Rattle.seasontext.proofs.Loops.{rows_none, rows_turn, rows_past}
+use Rattle.std.proofs.Common.{◌≡◌, ◌-◌, min, length, drop, replicate, ap, ◌∙◌, arith, length-drop}
+use Rattle.std.proofs.lemmas.List.{length-take-le}
+use Rattle.seasontext.proofs.Loops.{filled_is}
 use Rattle.seasontext.proofs.desk.put_rows.Goals as goal
-use Rattle.seasontext.proofs.desk.put_rows.Goals.{then-place-rows, else-place-rows}
 
-pub loop-index-init : goal.loop-index-init
-loop-index-init c = sym (rows_none c.args.row c.from-first.result c.args.rows.now)
-
-pub loop-index-preserved : goal.loop-index-preserved
-loop-index-preserved c =
-    elim c.if-place-rows.branch [
-      | then-place-rows w ↦ rows_turn c.args.row c.from-first.result c.loop-index.index c.args.rows.now c.loop-index.rows c.if-place-rows.rows c.loop-index.invariant w.rows-is
-      | else-place-rows w ↦ rows_past c.args.row c.from-first.result c.loop-index.index c.args.rows.now c.loop-index.rows c.if-place-rows.rows c.loop-index.invariant (omega (arith, w.if-place-rows.false)) w.rows-is
-    ]
+pub returns : goal.returns
+returns c =
+    let last : c.min-last.result ≡ min c.args.to (length c.args.rows.now) = cc in
+    let first : c.min-first.result ≡ min (c.args.from - 1) c.min-last.result = cc in
+    filled_is c.args.row (c.args.from - 1) c.args.to c.min-first.result c.min-last.result c.args.rows.now c.fill.new.self last first (c.fill.ensures.after (λ y e. e) ∙ ap (λ n. replicate n c.args.row) (length-take-le (c.min-last.result - c.min-first.result) (drop c.min-first.result c.args.rows.now) (omega (arith, length-drop c.min-first.result c.args.rows.now))))

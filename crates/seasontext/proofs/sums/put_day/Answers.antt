@@ -1,16 +1,24 @@
-use Rattle.std.proofs.Common.{◌+◌, ◌++◌, get_or, None, string_bytes, ap, ◌∙◌}
+use Rattle.std.proofs.Common.{◌≡◌, ◌+◌, ◌-◌, get_or, None, string_bytes, ap, ◌∙◌, arith}
+use Rattle.std.proofs.lemmas.Grind.{common_steps}
 use Rattle.domain.specs.Slots.{reading_slot}
 use Rattle.seasontext.specs.Sums.{period_text}
-use Rattle.seasontext.proofs.Totals.{gathered_begin, gathered_turn}
+use Rattle.seasontext.proofs.Totals.{gathered_begin, gathered_next}
 use Rattle.seasontext.proofs.sums.put_day.Goals as goal
 
-pub loop-index-init : goal.loop-index-init
-loop-index-init c =
-    gathered_begin (λ i. period_text c.args.lines.now c.args.day (i + 1) (get_or c.args.split.now (reading_slot c.args.day (i + 1)) None)) (string_bytes c.args.text.now)
+pub loop-period-init : goal.loop-period-init
+loop-period-init c = record {
+  begun = omega arith;
+  so_far = gathered_begin (λ i. period_text c.args.lines.now c.args.day (i + 1) (get_or c.args.split.now (reading_slot c.args.day (i + 1)) None)) (string_bytes c.args.text.now);
+}
 
-pub loop-index-preserved : goal.loop-index-preserved
-loop-index-preserved c =
+pub loop-period-preserved : goal.loop-period-preserved
+loop-period-preserved c =
     let ls = c.args.lines.now in
-    let i = c.loop-index.index in
-    let part = c.split_at-part.ensures ∙ ap (λ x. get_or c.args.split.now x None) c.reading_slot.ensures in
-    gathered_turn (λ i. period_text ls c.args.day (i + 1) (get_or c.args.split.now (reading_slot c.args.day (i + 1)) None)) i (string_bytes c.args.text.now) (string_bytes c.loop-index.text) (string_bytes c.put_period.new.text) c.loop-index.invariant (c.in_ok-put_period.ensures ∙ ap (λ x. string_bytes c.loop-index.text ++ period_text ls c.args.day (i + 1) x) part)
+    let d = c.args.day in
+    let p = c.loop-period.period in
+    let value : c.flatten-part.result ≡ get_or c.args.split.now (reading_slot d p) None = grind (arith, common_steps) in
+    let e : p ≡ p - 1 + 1 = omega arith in
+    record {
+      begun = omega arith;
+      so_far = gathered_next (λ i. period_text ls d (i + 1) (get_or c.args.split.now (reading_slot d (i + 1)) None)) p (string_bytes c.args.text.now) (string_bytes c.loop-period.text) (string_bytes c.put_period.new.text) _ c.loop-period.invariant.begun c.loop-period.invariant.so_far c.in_ok-put_period.ensures (ap (period_text ls d p) value ∙ ap (λ q. period_text ls d q (get_or c.args.split.now (reading_slot d q) None)) e);
+    }

@@ -6,4 +6,4 @@ use Rattle.seasontext.proofs.desk.Desk.line.Goals as goal
 pub returns : goal.returns
 unfolding line_done
 returns c =
-    IfOk-weaker c.enter.result _ _ (λ _ h. h ∙ ap (entered c.args.number c.args.entry) c.in_ok-settle.ensures) c.enter.ensures
+    IfOk-weaker c.enter.result _ _ (λ _ h. h ∙ ap (entered c.args.number c.args.said) c.in_ok-settle.ensures) c.enter.ensures

@@ -1,6 +1,8 @@
-use Rattle.std.proofs.Common.{get_or, sym, ap, ◌∙◌}
+use Rattle.std.proofs.Common.{◌+◌, get_or, sym, ap, ◌∙◌}
+use Rattle.season.specs.declared.Call.TheVariants as call
+use Rattle.seasontext.specs.Runs.{called}
 use Rattle.seasontext.specs.Seen.{seen}
-use Rattle.seasontext.proofs.Loops.{read_none, read_turn}
+use Rattle.seasontext.proofs.Loops.{read_none, read_more}
 use Rattle.seasontext.proofs.desk.Desk.readings.Goals as goal
 
 pub loop-index-init : goal.loop-index-init
@@ -8,4 +10,7 @@ loop-index-init c = sym (read_none c.args.day c.args.quality c.args.figures.now 
 
 pub loop-index-preserved : goal.loop-index-preserved
 loop-index-preserved c =
-    read_turn c.args.day c.args.quality c.args.figures.now c.loop-index.index c.figure_at-kwh.result (seen c.args.self.now) (seen c.loop-index.self) (seen c.call.new.self) c.reading_call.result c.loop-index.invariant (c.figure_at-kwh.ensures ∙ ap (λ i. get_or c.args.figures.now i 0) c.from.ensures) c.reading_call.ensures c.in_ok-call.ensures
+    let i = c.loop-index.index in
+    c.in_ok-reading.ensures
+    ∙ ap (called (call.Reading c.args.day (i + 1) c.args.quality (get_or c.args.figures.now i 0))) c.loop-index.invariant
+    ∙ sym (read_more c.args.day c.args.quality c.args.figures.now i (seen c.args.self.now))

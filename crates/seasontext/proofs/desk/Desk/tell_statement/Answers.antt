@@ -1,5 +1,4 @@
 use Rattle.std.proofs.Common.{◌+◌, ◌&&◌, ◌++◌, is_ok, ap, ◌∙◌}
-use Rattle.std.proofs.lemmas.Result.{IfOk-weaker}
 use Rattle.seasontext.specs.Seen.{seen}
 use Rattle.seasontext.specs.Texts.{buffer_text}
 use Rattle.seasontext.proofs.Desks.{silent, printed, said}
@@ -21,4 +20,4 @@ returns c =
     let a = c.args.answer in
     let bs = c.args.buffer.now in
     let count = c.in_ok-number.ensures in
-    IfOk-weaker c.put_statement.result _ _ (λ _ h. printed (is_ok a) (buffer_text (s.calls + 1) bs a) s s' c.is_silent.result count.1 (c.is_silent.ensures ∙ ap (λ b. s'.quiet && b) c.is_ok.ensures.value) _ c.if-is_silent.false (said s' _ _ (h ∙ ap (λ n. s'.text ++ buffer_text n bs a) count.0))) c.put_statement.ensures
+    printed (is_ok a) (buffer_text (s.calls + 1) bs a) s s' c.is_silent.result count.1 (c.is_silent.ensures ∙ ap (λ b. s'.quiet && b) c.is_ok.ensures.value) _ c.if-is_silent.false (said s' _ _ (c.in_ok-put_statement.ensures ∙ ap (λ n. s'.text ++ buffer_text n bs a) count.0))

@@ -1,5 +1,4 @@
 use Rattle.std.proofs.Common.{◌+◌, ◌&&◌, ◌++◌, is_ok, ap, ◌∙◌}
-use Rattle.std.proofs.lemmas.Result.{IfOk-weaker}
 use Rattle.book.specs.Volumes.{volume_answer}
 use Rattle.seasontext.specs.Seen.{seen}
 use Rattle.seasontext.specs.Texts.{volume_text}
@@ -25,4 +24,4 @@ returns c =
     let a = c.volume-answer.result in
     let count = c.in_ok-number.ensures in
     let is = c.volume-answer.ensures ∙ ap (λ t. volume_answer s.terms t c.args.day c.args.period c.args.place) c.as_slice.ensures.value in
-    IfOk-weaker c.put_volume.result _ _ (λ _ h. printed (is_ok a) (volume_text (s.calls + 1) a) s s' c.is_silent.result count.1 (c.is_silent.ensures ∙ ap (λ b. s'.quiet && b) c.is_ok.ensures.value) _ c.if-is_silent.false (said s' _ _ (h ∙ ap (λ n. s'.text ++ volume_text n a) count.0)) ∙ volume_is c.args.day c.args.period c.args.place s a is) c.put_volume.ensures
+    printed (is_ok a) (volume_text (s.calls + 1) a) s s' c.is_silent.result count.1 (c.is_silent.ensures ∙ ap (λ b. s'.quiet && b) c.is_ok.ensures.value) _ c.if-is_silent.false (said s' _ _ (c.in_ok-put_volume.ensures ∙ ap (λ n. s'.text ++ volume_text n a) count.0)) ∙ volume_is c.args.day c.args.period c.args.place s a is

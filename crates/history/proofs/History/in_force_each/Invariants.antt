@@ -1,0 +1,9 @@
+use Rattle.std.proofs.Common.{◌≡◌, ℕ, ◌+◌, ◌<◌, length, get_or, take, None}
+use Rattle.domain.specs.Limits.{periods}
+use Rattle.history.specs.Entries.{found}
+use Rattle.history.proofs.Sofar.{SoFar}
+use Rattle.history.proofs.History.in_force_each.Given as goal
+
+abbrev pub invariant-loop-index : goal.invariant-loop-index
+invariant-loop-index g l =
+    ((k : ℕ) → k < periods → SoFar (found (take l.index l.self.entries.now) (k + 1)) l.day (get_or l.bests k None)) × (length l.bests ≡ periods)
