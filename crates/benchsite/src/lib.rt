@@ -19,20 +19,8 @@ const ROW: usize = 2 + NOMINATIONS * NOMINATION;
 
 const DAY: usize = PERIODS as usize;
 
-// Why no season was run.
-#[derive(Debug, Drop)]
-enum Unrun {
-    NoCall,
-    NoMemory(AllocError),
-}
-
-impl From<AllocError> for Unrun {
-    fn from(error: AllocError) -> Unrun {
-        Unrun::NoMemory(error)
-    }
-}
-
 // A row: method, balance place, and eight nominations of 32 bits.
+// Rows and lines have the bytes that they have in files. Read and written by that crate, they took as many instructions and a third more time.
 fn row(bytes: &[u8]) -> AllocationRow {
     let [method, balance, rest @ ..] = bytes else {
         return AllocationRow::NONE;
@@ -98,7 +86,7 @@ fn call<'a>(record: &[u8], rows: &'a [AllocationRow]) -> Option<Call<'a>> {
     }
 }
 
-// What is written: bytes go on where those before ended, as far as there is room, and all are counted.
+// What is written: bytes go on where those before ended, as far as there is room, and all are counted. The count goes past the room, so it is no length of a part of it.
 #[derive(Drop)]
 struct Output<'a> {
     room: &'a mut [u8],
@@ -116,6 +104,7 @@ impl Output<'_> {
     }
 
     fn put_outcome(&mut self, outcome: Outcome) {
+        // the numbers of the outcomes are the boundary's
         match outcome {
             Ok(Accepted::Done) => self.put(&[0]),
             Ok(Accepted::Scheduled { notice }) => {
@@ -156,6 +145,7 @@ impl Output<'_> {
 }
 
 // A book with tables of its own.
+// The `Desk` of seasontext and the `Harbour` of openbook have the same tables; what they share is a list of fields, and a crate for it with contracts would be no plainer.
 #[derive(Drop)]
 struct Site {
     book: Book<House>,
@@ -195,7 +185,7 @@ impl Site {
     }
 }
 
-// Makes the calls on a new site, and writes what came of each and the lines that were sent; answers the bytes that this takes.
+// Makes the calls on a new site, and writes what came of each and the lines that were sent; answers the bytes that this takes, or none where a call is none or memory runs out.
 fn run(
     heap: Global,
     terms: Terms,
@@ -203,18 +193,18 @@ fn run(
     calls: &[u8],
     schedules: &[u8],
     room: &mut [u8],
-) -> Result<usize, Unrun> {
-    let schedules = rows(heap, schedules)?;
-    let mut site = Site::open(heap, terms, lines)?;
+) -> Option<usize> {
+    let schedules = rows(heap, schedules).ok()?;
+    let mut site = Site::open(heap, terms, lines).ok()?;
     let mut out = Output { room, written: 0 };
     for record in calls.chunks_exact(CALL) {
-        let call = call(record, schedules.as_slice()).ok_or(Unrun::NoCall)?;
+        let call = call(record, schedules.as_slice())?;
         out.put_outcome(site.apply(&call));
     }
     for line in site.journal.iter().take(site.book.lines()) {
         out.put_line(*line);
     }
-    Ok(out.written)
+    Some(out.written)
 }
 
 // Runs a season on a site of these terms, with room for so many lines. It answers the bytes of the output, or 0 where the terms are outside their limits, a call is none or memory runs out.

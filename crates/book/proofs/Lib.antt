@@ -1,4 +1,2 @@
-pub mod Gated
-pub mod Receipts
 pub mod Rows
 pub mod Sendings

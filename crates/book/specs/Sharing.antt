@@ -108,5 +108,5 @@ with_rows (Err f) k = k
 
 -- what an accepted schedule hands out
 abbrev pub receipt_for : Result ℕ Fault → ℕ → ℕ → ℕ → Result Receipt Fault
-receipt_for (Ok n) day sender moment = Ok (record { day = day; sender = sender; moment = moment })
+receipt_for (Ok n) day sender moment = Ok (record { intro = record { sender = sender; day = day; moment = moment } })
 receipt_for (Err f) day sender moment = Err f

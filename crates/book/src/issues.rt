@@ -12,6 +12,7 @@ use rules::Rule;
 
 impl<R: Rule> Book<R> {
     // Splits a day's readings by the rows in force, and sends each supplier what changed since the day's last issue; answers the lines sent.
+    // The tables stand one by one, since each is lent for itself, to be read or to be written.
     pub fn issue(
         &mut self,
         holders: &[Dated<u16>],
@@ -28,30 +29,6 @@ impl<R: Rule> Book<R> {
         ensures keeps { kept self.new ≡ after_issue result day run (kept self.old) }
         ensures same { SameTerms self.old self.new }
     {
-        let sent = self.send(holders, rows, readings, issued, journal, day, run)?;
-        self.lines += sent;
-        if Run::try_from(run) == Ok(Run::Final) {
-            self.closed[usize::from(day)] = true;
-        }
-        Ok(sent)
-    }
-
-    // Sends the lines, and fills the slots of the day.
-    fn send<'a>(
-        &'a self,
-        holders: &'a [Dated<u16>],
-        rows: &'a [Dated<AllocationRow>],
-        readings: &'a [Reading],
-        issued: &mut [Slot],
-        journal: &mut [Line],
-        day: u16,
-        run: u8,
-    ) -> Result<usize, Fault>
-        ensures answer { result ≡ issue_verdict (R.Rule.meaning self.now.rule) self.now.terms (kept self.now) holders.now rows.now readings.now issued.old journal.old day run }
-        ensures issued { issued.new ≡ settled result (slots_issued (R.Rule.meaning self.now.rule) self.now.terms (kept self.now) holders.now rows.now readings.now issued.old journal.old day run) issued.old }
-        ensures journal { journal.new ≡ settled result (journal_sent (R.Rule.meaning self.now.rule) self.now.terms (kept self.now) holders.now rows.now readings.now issued.old journal.old day run) journal.old }
-        ensures room { IfOk result (λ sent. (day < 62) × (self.now.lines + sent ≤ length journal.old)) }
-    {
         let order = Order {
             rule: &self.rule,
             terms: self.terms,
@@ -62,10 +39,15 @@ impl<R: Rule> Book<R> {
             day,
             run,
         };
-        order.issue(issued, journal)
+        let sent = order.issue(issued, journal)?;
+        if Run::try_from(run) == Ok(Run::Final) {
+            self.closed[usize::from(day)] = true;
+        }
+        self.lines += sent;
+        Ok(sent)
     }
 
-    // What the book knows of itself when it issues a day.
+    // What the book knows of itself when it issues a day. Its counts are copied, since a book keeps which of all days are closed and an order asks of one.
     fn standing(&self, day: u16) -> Standing
         ensures { result ≡ standing_of (kept self.now) day }
     {

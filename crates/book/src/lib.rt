@@ -12,6 +12,7 @@ use domain::{
     Fault, MAX_DAYS, MAX_KWH, Quality, Reading, Slot, Table, Terms, admit, is_period, is_quality,
     issued_slot, reading_slot,
 };
+use files::ReadingRecord;
 use rules::Rule;
 
 mod issues;
@@ -25,6 +26,7 @@ pub use notices::Receipt;
 const DAYS: usize = MAX_DAYS as usize;
 
 // What a book keeps. The tables that its calls work on are lent to each call.
+// A refusal names an argument by its number in the call, so the arguments of a call stand one by one.
 #[derive(Drop)]
 pub struct Book<R> {
     terms: Terms,
@@ -35,6 +37,7 @@ pub struct Book<R> {
     lines: usize,
     // the day from which the sharing has ended
     ended: Option<u16>,
+    // a flag for each day that a book can have, since it has no heap
     closed: [bool; DAYS],
 }
 
@@ -80,21 +83,26 @@ impl<R: Rule> Book<R> {
         ensures answer { result ≡ reading_answer self.now.terms (kept self.now) readings.old day period quality kwh }
         ensures after { readings.new ≡ settled result (with_reading readings.old day period quality kwh) readings.old }
     {
-        self.admit_reading(readings, day, period, quality, kwh)?;
+        let reading = ReadingRecord {
+            day,
+            period,
+            quality,
+            kwh,
+        };
+        self.admit_reading(readings, reading)?;
         readings[reading_slot(day, period)] = Reading { quality, kwh };
         Ok(())
     }
 
-    fn admit_reading(
-        &self,
-        readings: &[Reading],
-        day: u16,
-        period: u8,
-        quality: u8,
-        kwh: u32,
-    ) -> Result<(), Fault>
-        ensures { result ≡ reading_answer self.now.terms (kept self.now) readings.now day period quality kwh }
+    fn admit_reading(&self, readings: &[Reading], reading: ReadingRecord) -> Result<(), Fault>
+        ensures { result ≡ reading_answer self.now.terms (kept self.now) readings.now reading.day reading.period reading.quality reading.kwh }
     {
+        let ReadingRecord {
+            day,
+            period,
+            quality,
+            kwh,
+        } = reading;
         admit(1, self.terms.has_day(day))?;
         admit(2, is_period(period))?;
         admit(3, is_quality(quality))?;

@@ -2,35 +2,26 @@
 ghost use Rattle.std.specs.Prelude.{◌≡◌};
 ghost use Rattle.files.specs.Contents.{notice_of};
 
-use files::notice;
+use files::{Intro, notice};
 
 // What an accepted schedule hands out. It is owed a confirmation: it cannot be let go, only confirmed, and that once.
+// So it derives nothing: it may not be copied or dropped, and `Debug` would be made for no one.
 pub struct Receipt {
-    day: u16,
-    sender: u16,
-    moment: u32,
+    intro: Intro,
 }
 
 impl Receipt {
-    pub(crate) fn new(day: u16, sender: u16, moment: u32) -> Receipt
-        ensures { (result.day ≡ day) × (result.sender ≡ sender) × (result.moment ≡ moment) }
+    pub(crate) fn new(intro: Intro) -> Receipt
+        ensures { result.intro ≡ intro }
     {
-        Receipt {
-            day,
-            sender,
-            moment,
-        }
+        Receipt { intro }
     }
 
     // The notice that the schedule was accepted, as the bytes of a file.
     pub fn confirm(self) -> [u8; 16]
-        ensures { result ≡ notice_of self.day self.sender self.moment }
+        ensures { result ≡ notice_of self.intro.day self.intro.sender self.intro.moment }
     {
-        let Receipt {
-            day,
-            sender,
-            moment,
-        } = self;
-        notice(day, sender, moment)
+        let Receipt { intro } = self;
+        notice(intro.day, intro.sender, intro.moment)
     }
 }

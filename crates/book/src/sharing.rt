@@ -1,8 +1,9 @@
 // Who shares the meter, how, and until when.
 ghost use Rattle.std.specs.Prelude.{◌≡◌, ℕ, ◌<◌, ◌≤◌, length, take, Ok, MatchResult, nat_le};
+ghost use Rattle.domain.specs.Slots.{gate};
 ghost use Rattle.domain.specs.Checks.{settled, unless};
 ghost use Rattle.domain.specs.declared.Table.TheVariants.{Holders};
-ghost use Rattle.domain.specs.declared.Fault.TheVariants.{Spoiled};
+ghost use Rattle.domain.specs.declared.Fault.TheVariants.{AfterGate, Spoiled};
 ghost use Rattle.history.specs.Questions.{AfterPut, AfterDay};
 ghost use Rattle.history.specs.Puts.{put_one, put_day, holding_if};
 ghost use Rattle.book.specs.Kept.{kept, SameTerms};
@@ -11,9 +12,21 @@ ghost use Rattle.domain.specs.Limits.{periods};
 
 use super::{Book, Receipt};
 use domain::{AllocationRow, Fault, PERIODS, Table, admit, gate};
+use files::Intro;
 use history::{Dated, History, put, put_day};
 use rows::is_allowed;
 use rules::Rule;
+
+// Refuses what comes after the gate of its day.
+fn admit_in_time(intro: Intro) -> Result<(), Fault>
+    ensures { result ≡ unless (nat_le intro.moment (gate intro.day)) (AfterGate (gate intro.day)) (Ok tt) }
+{
+    let gate = gate(intro.day);
+    if intro.moment > gate {
+        return Err(Fault::AfterGate { gate });
+    }
+    Ok(())
+}
 
 impl<R: Rule> Book<R> {
     // Registers a supplier as the holder of a place from a day on.
@@ -54,25 +67,23 @@ impl<R: Rule> Book<R> {
         ensures keeps { kept self.new ≡ settled result (ended_from day (kept self.old)) (kept self.old) }
         ensures same { SameTerms self.old self.new }
     {
-        self.admit_end(holders, sender, day, moment)?;
+        let intro = Intro {
+            sender,
+            day,
+            moment,
+        };
+        self.admit_end(holders, intro)?;
         self.ended = Some(day);
         Ok(())
     }
 
-    fn admit_end(
-        &self,
-        holders: &[Dated<u16>],
-        sender: u16,
-        day: u16,
-        moment: u32,
-    ) -> Result<(), Fault>
-        ensures { result ≡ end_answer self.now.terms (kept self.now) holders.now sender day moment }
+    fn admit_end(&self, holders: &[Dated<u16>], intro: Intro) -> Result<(), Fault>
+        ensures { result ≡ end_answer self.now.terms (kept self.now) holders.now intro.sender intro.day intro.moment }
     {
+        let Intro { sender, day, .. } = intro;
         admit(1, sender >= 1)?;
         admit(2, self.terms.has_day(day))?;
-        if moment > gate(day) {
-            return Err(Fault::AfterGate { gate: gate(day) });
-        }
+        admit_in_time(intro)?;
         let primary = self.primary_on(holders, day)?;
         if primary != Some(sender) {
             return Err(Fault::SenderNotPrimary { day });
@@ -99,29 +110,31 @@ impl<R: Rule> Book<R> {
         ensures same { SameTerms self.old self.new }
         ensures says { MatchResult result (λ _. AfterDay (take self.old.rows rows.old) day (take periods schedule.now) (take self.new.rows rows.new)) (λ _. rows.new ≡ rows.old) }
     {
-        self.admit_schedule(holders, rows, sender, day, moment, schedule)?;
+        let intro = Intro {
+            sender,
+            day,
+            moment,
+        };
+        self.admit_schedule(holders, rows, intro, schedule)?;
         self.rows = put_day(rows, self.rows, Table::Rows, day, schedule)?;
-        Ok(Receipt::new(day, sender, moment))
+        Ok(Receipt::new(intro))
     }
 
     fn admit_schedule(
         &self,
         holders: &[Dated<u16>],
         rows: &[Dated<AllocationRow>],
-        sender: u16,
-        day: u16,
-        moment: u32,
+        intro: Intro,
         schedule: &[AllocationRow],
     ) -> Result<(), Fault>
-        ensures { result ≡ schedule_admit (R.Rule.meaning self.now.rule) self.now.terms (kept self.now) holders.now rows.now sender day moment schedule.now }
+        ensures { result ≡ schedule_admit (R.Rule.meaning self.now.rule) self.now.terms (kept self.now) holders.now rows.now intro.sender intro.day intro.moment schedule.now }
     {
+        let Intro { sender, day, .. } = intro;
         admit(1, sender >= 1)?;
         admit(2, self.terms.has_day(day))?;
         admit(4, schedule.len() == usize::from(PERIODS))?;
         self.admit_rows(schedule)?;
-        if moment > gate(day) {
-            return Err(Fault::AfterGate { gate: gate(day) });
-        }
+        admit_in_time(intro)?;
         let primary = self.primary_on(holders, day)?;
         if self.rows > rows.len() {
             return Err(Fault::Spoiled { table: Table::Rows });

@@ -1,6 +1,7 @@
 // Blanking: 11.
-use crate::helpers::{METERED, READINGS, Refusal, SENT, SLOTS, open, refusal};
+use crate::helpers::{METERED, SENT, open};
 use domain::{Reading, Slot};
+use samples::{READINGS, Refusal, SLOTS, refusal};
 use std::test::Fail;
 
 // How many readings and slots are lent, and the refusal.

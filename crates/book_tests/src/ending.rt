@@ -1,6 +1,7 @@
 // Ending the sharing: 8, 10, 13, 14, 15.
-use crate::helpers::{NOBODY, Refusal, end, first_is_answered, open, register};
+use crate::helpers::{end, open, register};
 use history::Dated;
+use samples::{NOBODY, Refusal, attempts};
 use std::process::Abort;
 use std::test::Fail;
 
@@ -124,5 +125,9 @@ fn attempt(rt: &impl Abort, one: Option<Wrong>, other: Option<Wrong>) -> Result<
 
 #[test]
 fn of_two_the_first_is_answered(rt: HostRuntime) -> Result<(), Fail> {
-    first_is_answered(&rt, &REFUSALS, |one, other| attempt(&rt, one, other))
+    let attempts = attempts(rt.alloc(), &REFUSALS)?;
+    for tried in attempts.iter() {
+        assert_eq!(rt; attempt(&rt, tried.one, tried.other)?, tried.expected);
+    }
+    Ok(())
 }

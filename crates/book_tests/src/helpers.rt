@@ -1,9 +1,9 @@
-// What the tests have in common: a small book, empty tables, rows, and what a call answered.
+// What the tests have in common: a small book, empty tables, rows, and its calls.
 use book::Book;
-use domain::{AllocationRow, Fault, Quality, Reading, Slot, Terms};
+use domain::{AllocationRow, Quality, Reading, Slot, Terms};
 use history::Dated;
 use rules::House;
-use std::process::Abort;
+use samples::{Refusal, refusal};
 use std::test::Fail;
 
 // A book of two places and three days, with a capacity of 60 kWh.
@@ -11,26 +11,7 @@ pub(crate) fn open() -> Result<Book<House>, Fail> {
     Ok(Book::open(Terms::new(2, 3, 60)?, House))
 }
 
-// The sizes of its tables of readings and of what was issued.
-pub(crate) const READINGS: usize = 144;
-
-pub(crate) const SLOTS: usize = 288;
-
-// An element of a table of holders that nobody has put.
-pub(crate) const NOBODY: Dated<u16> = Dated {
-    subject: 9,
-    day: 9,
-    entry: 9,
-};
-
-// 70% for place 0 and the rest for place 1.
-pub(crate) const SEVENTY: AllocationRow = AllocationRow {
-    method: 1,
-    balance: 1,
-    nominations: [7_000, 0, 0, 0, 0, 0, 0, 0],
-};
-
-// Half for each, and a nomination for a place that the book does not have.
+// Half for each, and a nomination for a place that the book does not have. Rows store a method's number.
 pub(crate) const THIRD_PLACE: AllocationRow = AllocationRow {
     method: 1,
     balance: 1,
@@ -64,18 +45,7 @@ pub(crate) const SENT: Slot = Slot {
     volume: 21,
 };
 
-pub(crate) fn number_and_spot(fault: Fault) -> (u8, u64) {
-    (fault.number(), fault.spot())
-}
-
-// A refusal's number and spot, or none where the call was accepted.
-pub(crate) type Refusal = Option<(u8, u64)>;
-
-pub(crate) fn refusal<T: Drop>(answer: Result<T, Fault>) -> Refusal {
-    answer.err().map(number_and_spot)
-}
-
-// Registers a supplier at a place from a day on, in a table of the first `room` elements.
+// Registers a supplier at a place from a day on, in a table of the first `room` elements. Here and in the other files a table stands beside how long it is lent: a table is lent by its first elements, and a struct for a slice and a length would be the slice.
 pub(crate) fn register(
     book: &mut Book<House>,
     holders: &mut [Dated<u16>],
@@ -139,22 +109,4 @@ pub(crate) fn schedule(
         &list[0..count],
     );
     refusal(answer.map(|receipt| receipt.confirm()))
-}
-
-// With nothing wrong a call is accepted. Of two things that are wrong the first of the list is answered.
-pub(crate) fn first_is_answered<W: Copy, F: Fn(Option<W>, Option<W>) -> Result<Refusal, Fail>>(
-    rt: &impl Abort,
-    refusals: &[(W, (u8, u64))],
-    attempt: F,
-) -> Result<(), Fail>
-    requires { F.IsAlwaysCallable attempt }
-{
-    assert_eq!(rt; attempt(None, None)?, None);
-    for (at, (one, expected)) in refusals.iter().enumerate() {
-        assert_eq!(rt; attempt(Some(*one), None)?, Some(*expected));
-        for (other, _) in refusals.iter().skip(at + 1) {
-            assert_eq!(rt; attempt(Some(*one), Some(*other))?, Some(*expected));
-        }
-    }
-    Ok(())
 }

@@ -1,12 +1,10 @@
 // Schedules: 8, 9, 10, 13, 14, 15, 21, and the notice that confirms a receipt.
-use crate::helpers::{
-    IN_TIME, NO_ROW, NOBODY, Refusal, SEVENTY, Sending, THIRD_PLACE, end, first_is_answered, fixed,
-    open, register, schedule,
-};
+use crate::helpers::{IN_TIME, NO_ROW, Sending, THIRD_PLACE, end, fixed, open, register, schedule};
 use book::Book;
-use domain::{AllocationRow, Terms};
+use domain::{AllocationRow, NOMINATIONS, Terms};
 use history::Dated;
 use rules::House;
+use samples::{NOBODY, Refusal, SEVENTY, attempts};
 use std::process::Abort;
 use std::test::Fail;
 
@@ -71,7 +69,22 @@ fn put(period: u8, day: u16) -> Dated<AllocationRow> {
     }
 }
 
-// Which row is exchanged for which, and the refusal.
+fn of_method(method: u8) -> AllocationRow {
+    AllocationRow { method, ..SEVENTY }
+}
+
+fn nominating(nominations: [u32; NOMINATIONS]) -> AllocationRow {
+    AllocationRow {
+        nominations,
+        ..SEVENTY
+    }
+}
+
+fn balanced_at(balance: u8) -> AllocationRow {
+    AllocationRow { balance, ..SEVENTY }
+}
+
+// Which row is exchanged for which, and the refusal. A method is a number here, since some of them are no method on purpose.
 fn exchanged() -> [(usize, AllocationRow, Refusal); 11] {
     [
         (0, fixed(60), None),
@@ -79,54 +92,12 @@ fn exchanged() -> [(usize, AllocationRow, Refusal); 11] {
         (47, fixed(60), None),
         (47, fixed(61), Some((9, 48))),
         (12, THIRD_PLACE, Some((9, 13))),
-        (
-            12,
-            AllocationRow {
-                nominations: [10_000, 0, 0, 0, 0, 0, 0, 0],
-                ..SEVENTY
-            },
-            None,
-        ),
-        (
-            12,
-            AllocationRow {
-                nominations: [10_001, 0, 0, 0, 0, 0, 0, 0],
-                ..SEVENTY
-            },
-            Some((9, 13)),
-        ),
-        (
-            12,
-            AllocationRow {
-                nominations: [7_000, 0, 0, 0, 0, 0, 0, 1],
-                ..SEVENTY
-            },
-            Some((9, 13)),
-        ),
-        (
-            12,
-            AllocationRow {
-                balance: 0,
-                ..SEVENTY
-            },
-            Some((9, 13)),
-        ),
-        (
-            12,
-            AllocationRow {
-                method: 0,
-                ..SEVENTY
-            },
-            Some((9, 13)),
-        ),
-        (
-            12,
-            AllocationRow {
-                method: 8,
-                ..SEVENTY
-            },
-            Some((9, 13)),
-        ),
+        (12, nominating([10_000, 0, 0, 0, 0, 0, 0, 0]), None),
+        (12, nominating([10_001, 0, 0, 0, 0, 0, 0, 0]), Some((9, 13))),
+        (12, nominating([7_000, 0, 0, 0, 0, 0, 0, 1]), Some((9, 13))),
+        (12, balanced_at(0), Some((9, 13))),
+        (12, of_method(0), Some((9, 13))),
+        (12, of_method(8), Some((9, 13))),
     ]
 }
 
@@ -254,6 +225,13 @@ const REFUSALS: [(Wrong, (u8, u64)); 11] = [
     (Wrong::RowsFull, (21, 96)),
 ];
 
+// Of day 0, long before its gate.
+const EARLY: Sending = Sending {
+    day: 0,
+    moment: 0,
+    ..IN_TIME
+};
+
 // The rows of day 0 are held. A refused schedule leaves the table of rows as it was.
 // What is wrong last is done first, so that what is wrong first stands.
 fn attempt(rt: &impl Abort, one: Option<Wrong>, other: Option<Wrong>) -> Result<Refusal, Fail> {
@@ -261,13 +239,8 @@ fn attempt(rt: &impl Abort, one: Option<Wrong>, other: Option<Wrong>) -> Result<
     let mut holders = [NOBODY; 1];
     let mut rows = [NO_ROW; 96];
     assert_eq!(rt; register(&mut book, &mut holders, 1, 0, 0, 101), None);
-    let first = Sending {
-        day: 0,
-        moment: 0,
-        ..IN_TIME
-    };
     assert_eq!(rt;
-        schedule(&mut book, &holders, &mut rows, first, &[SEVENTY; 48]),
+        schedule(&mut book, &holders, &mut rows, EARLY, &[SEVENTY; 48]),
         None
     );
     let before = rows;
@@ -300,7 +273,11 @@ fn attempt(rt: &impl Abort, one: Option<Wrong>, other: Option<Wrong>) -> Result<
 
 #[test]
 fn of_two_the_first_is_answered(rt: HostRuntime) -> Result<(), Fail> {
-    first_is_answered(&rt, &REFUSALS, |one, other| attempt(&rt, one, other))
+    let attempts = attempts(rt.alloc(), &REFUSALS)?;
+    for tried in attempts.iter() {
+        assert_eq!(rt; attempt(&rt, tried.one, tried.other)?, tried.expected);
+    }
+    Ok(())
 }
 
 // The notice of a schedule for a day by a sender at a moment, in a book of 62 days.

@@ -1,18 +1,8 @@
 // Statements: 8, 12. A journal shorter than the lines sent (13) needs an issue, and is tested with the issue.
-use crate::helpers::{Refusal, open, refusal};
-use domain::Line;
+use crate::helpers::open;
 use files::read_statement;
+use samples::{Refusal, STRAY, refusal};
 use std::test::Fail;
-
-// A line that the book did not send.
-const STRAY: Line = Line {
-    day: 9,
-    period: 99,
-    place: 9,
-    supplier: 0,
-    run: 9,
-    volume: i32::MIN,
-};
 
 fn write(first: usize, count: usize, out: &mut [u8], room: usize) -> Result<Refusal, Fail> {
     let room = room.min(out.len());
@@ -52,7 +42,7 @@ fn read_back(rt: HostRuntime) -> Result<(), Fail> {
     let mut out = [0xaa; 40];
     assert_eq!(rt; open()?.statement(&[], 0, 0, &mut out)?, 8);
     let statement = read_statement(&out[0..8])?;
-    assert_eq!(rt; statement.count, 0);
-    assert!(rt; statement.records.get(0).is_none());
+    assert_eq!(rt; statement.len(), 0);
+    assert!(rt; statement.get(0).is_none());
     Ok(())
 }

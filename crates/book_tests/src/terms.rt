@@ -1,6 +1,6 @@
 // Terms: 7 and the number of the term.
-use crate::helpers::{Refusal, refusal};
 use domain::Terms;
+use samples::{Refusal, refusal};
 use std::test::Fail;
 
 // Terms, each limit from both sides, and the first that is outside where there are several.

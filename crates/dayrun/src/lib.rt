@@ -12,7 +12,7 @@ ghost use Rattle.dayrun.specs.Texts.{line_text, refusal_text, answer_text, day_t
 ghost use Rattle.dayrun.specs.Seen.{files_seen};
 
 use book::Book;
-use domain::{AllocationRow, Fault, Line, PERIODS, Reading, Slot, Terms};
+use domain::{AllocationRow, Fault, Line, PERIODS, Reading, Run, Slot, Terms};
 use files::{Intro, ReadingRecord, ReadingsFile, ScheduleFile, read_readings, read_schedule};
 use history::Dated;
 use rules::House;
@@ -76,9 +76,9 @@ fn put_readings(
     table: &mut [Reading],
     file: ReadingsFile<'_>,
 ) -> Result<(), Fault>
-    ensures { seen_by (λ _. table.new) result ≡ reading_all book.now.terms (kept book.now) table.old (readings_in file.entry.records.bytes.now) }
+    ensures { seen_by (λ _. table.new) result ≡ reading_all book.now.terms (kept book.now) table.old (readings_in file.entry.bytes.now) }
 {
-    for reading in file.records.iter() {
+    for reading in file.iter() {
         let ReadingRecord {
             day,
             period,
@@ -96,7 +96,7 @@ fn run_day(
     files: DayFiles<'_>,
     schedule: &[AllocationRow],
 ) -> Result<usize, Fault>
-    ensures { seen_by (λ sent. take sent tables.new.journal.now) result ≡ day_sent site_terms (state_in opened tables.old) files.entry.schedule.intro.sender files.entry.schedule.intro.day files.entry.schedule.intro.moment schedule.now (readings_in files.entry.readings.records.bytes.now) }
+    ensures { seen_by (λ sent. take sent tables.new.journal.now) result ≡ day_sent site_terms (state_in opened tables.old) files.entry.schedule.intro.sender files.entry.schedule.intro.day files.entry.schedule.intro.moment schedule.now (readings_in files.entry.readings.bytes.now) }
 {
     let Intro {
         sender,
@@ -114,10 +114,18 @@ fn run_day(
     let receipt = book.schedule(holders, rows, sender, day, moment, schedule)?;
     receipt.confirm();
     put_readings(&book, readings, files.readings)?;
-    book.issue(holders, rows, readings, issued, journal, 0, 1)
+    book.issue(
+        holders,
+        rows,
+        readings,
+        issued,
+        journal,
+        0,
+        Run::Initial as u8,
+    )
 }
 
-// Adds a refusal to the text. The functions from here on choose what is printed; a fault or a line prints by `write!`.
+// Adds a refusal to the text. It chooses nothing: it is a function since a refusal is printed in two places.
 fn put_refusal(text: &mut String, fault: Fault) -> Result<(), AllocError>
     ensures { OnOk result (string_bytes text.new ≡ string_bytes text.old ++ refusal_text fault) }
 {
@@ -125,6 +133,7 @@ fn put_refusal(text: &mut String, fault: Fault) -> Result<(), AllocError>
 }
 
 // Adds the first lines of a journal to the text, so many at most.
+// This function and the two below are no `Display`: each is printed once, and a type for each would be made for one `write!`.
 fn put_lines(text: &mut String, journal: &[Line], sent: usize) -> Result<(), AllocError>
     ensures { OnOk result (string_bytes text.new ≡ string_bytes text.old ++ flat_map line_text (take sent journal.now)) }
 {
@@ -162,7 +171,7 @@ fn put_day(
     files: DayFiles<'_>,
     schedule: &[AllocationRow],
 ) -> Result<(), AllocError>
-    ensures { OnOk result (string_bytes text.new ≡ string_bytes text.old ++ answer_text (day_sent site_terms start files.entry.schedule.intro.sender files.entry.schedule.intro.day files.entry.schedule.intro.moment schedule.now (readings_in files.entry.readings.records.bytes.now))) }
+    ensures { OnOk result (string_bytes text.new ≡ string_bytes text.old ++ answer_text (day_sent site_terms start files.entry.schedule.intro.sender files.entry.schedule.intro.day files.entry.schedule.intro.moment schedule.now (readings_in files.entry.readings.bytes.now))) }
 {
     let mut holders = [Dated::blank(0); 2];
     let mut rows = [Dated::blank(AllocationRow::NONE); PERIOD_SLOTS];

@@ -6,22 +6,9 @@ mod tests {
     use dayrun::split_day;
     use domain::{AllocationRow, PERIODS, Quality};
     use files::{ReadingRecord, write_readings, write_schedule};
+    use samples::{SEVENTY, THIRTY};
     use std::process::Abort;
     use std::test::Fail;
-
-    // 70 % for place 0, and the rest for place 1.
-    const PERCENTAGE: AllocationRow = AllocationRow {
-        method: 1,
-        balance: 1,
-        nominations: [7_000, 0, 0, 0, 0, 0, 0, 0],
-    };
-
-    // 30 kWh for place 0 whatever is metered, and what is left or wanting for place 1.
-    const FIXED: AllocationRow = AllocationRow {
-        method: 3,
-        balance: 1,
-        nominations: [30, 0, 0, 0, 0, 0, 0, 0],
-    };
 
     const NOTHING: ReadingRecord = ReadingRecord {
         day: 0,
@@ -32,7 +19,7 @@ mod tests {
 
     // A day with its own row and reading in period 13, and actual readings of 0 in all other periods.
     fn day(rt: &impl Abort, moment: u32, row: AllocationRow, kwh: u32) -> [u8; 2_040] {
-        let mut rows = [PERCENTAGE; 48];
+        let mut rows = [SEVENTY; 48];
         rows[12] = row;
         let mut readings = [NOTHING; 48];
         for (period, reading) in (1..=PERIODS).zip(readings.iter_mut()) {
@@ -47,7 +34,7 @@ mod tests {
 
     #[test]
     fn a_percentage(rt: HostRuntime) -> Result<(), Fail> {
-        let input = day(&rt, 1_380, PERCENTAGE, 30);
+        let input = day(&rt, 1_380, SEVENTY, 30);
         let text = split_day(rt.alloc(), &input)?;
         assert_eq!(rt; text.as_slice(), b"13 0 101 21\n13 1 102 9\n".as_slice());
         Ok(())
@@ -56,7 +43,7 @@ mod tests {
     // Place 1 is sent virtual energy.
     #[test]
     fn a_fixed_block(rt: HostRuntime) -> Result<(), Fail> {
-        let input = day(&rt, 1_380, FIXED, 20);
+        let input = day(&rt, 1_380, THIRTY, 20);
         let text = split_day(rt.alloc(), &input)?;
         assert_eq!(rt; text.as_slice(), b"13 0 101 30\n13 1 102 -10\n".as_slice());
         Ok(())
@@ -64,7 +51,7 @@ mod tests {
 
     #[test]
     fn a_late_schedule(rt: HostRuntime) -> Result<(), Fail> {
-        let input = day(&rt, 1_381, PERCENTAGE, 30);
+        let input = day(&rt, 1_381, SEVENTY, 30);
         let text = split_day(rt.alloc(), &input)?;
         assert_eq!(rt; text.as_slice(), b"refused 10 1380\n".as_slice());
         Ok(())
@@ -72,7 +59,7 @@ mod tests {
 
     #[test]
     fn a_damaged_file(rt: HostRuntime) -> Result<(), Fail> {
-        let mut input = day(&rt, 1_380, PERCENTAGE, 30);
+        let mut input = day(&rt, 1_380, SEVENTY, 30);
         input[1_648] = 0;
         let text = split_day(rt.alloc(), &input)?;
         assert_eq!(rt; text.as_slice(), b"refused 2 0\n".as_slice());
@@ -83,7 +70,7 @@ mod tests {
 
     #[test]
     fn nothing_sent(rt: HostRuntime) -> Result<(), Fail> {
-        let input = day(&rt, 1_380, PERCENTAGE, 0);
+        let input = day(&rt, 1_380, SEVENTY, 0);
         let text = split_day(rt.alloc(), &input)?;
         assert!(rt; text.is_empty());
         Ok(())
@@ -92,7 +79,7 @@ mod tests {
     // The readings file has a reading for period 12 twice, and none for period 13.
     #[test]
     fn an_empty_reading(rt: HostRuntime) -> Result<(), Fail> {
-        let mut input = day(&rt, 1_380, PERCENTAGE, 0);
+        let mut input = day(&rt, 1_380, SEVENTY, 0);
         input[1_648 + 8 + 12 * 8 + 2] = 12;
         let text = split_day(rt.alloc(), &input)?;
         assert_eq!(rt; text.as_slice(), b"refused 18 13\n".as_slice());

@@ -95,6 +95,7 @@ impl AllocationRow {
 }
 
 // The metered energy of one Settlement Period, as tables and files store it: with the number of its quality, or 0 in an empty slot.
+// Its quality is a number and no enum, as with all that tables store: a table that a call is lent may hold any number, which is refused and not lost.
 #[derive(Clone, Copy, PartialEq, Eq, Debug)]
 pub struct Reading {
     pub quality: u8,
@@ -114,6 +115,7 @@ impl Reading {
 }
 
 // What was last issued for one place in one Settlement Period, as tables store it: with supplier 0 in an empty slot.
+// Its supplier is a number and no Option, as with a reading: a table that is lent may hold a volume that was issued to nobody.
 #[derive(Clone, Copy, PartialEq, Eq, Debug)]
 pub struct Slot {
     pub supplier: u16,
@@ -224,7 +226,7 @@ pub fn is_period(period: u8) -> bool
     (1..=PERIODS).contains(&period)
 }
 
-// Whether a reading may have this quality: 1, estimated, or 2, actual.
+// Whether a reading may have this quality: 1, estimated, or 2, actual. Asked of a number, since calls are given one and tables store it.
 pub fn is_quality(quality: u8) -> bool
     ensures { result ≡ is_quality quality }
 {
@@ -251,7 +253,7 @@ pub enum Term {
 }
 
 impl Term {
-    // Its number, by which a refusal's spot names it: plainer to read at a call than a conversion.
+    // Its number, by which a refusal's spot names it. A public method that callers have: a conversion beside it would say the same twice.
     pub fn number(self) -> u8
         ensures { result ≡ number_of_term self }
     {
@@ -270,7 +272,7 @@ pub enum Table {
 }
 
 impl Table {
-    // Its number, by which a refusal's spot names it, as with a term.
+    // Its number, by which a refusal's spot names it. A method for the reason of a term's.
     pub fn number(self) -> u8
         ensures { result ≡ number_of_table self }
     {
@@ -326,7 +328,7 @@ pub enum Fault {
 }
 
 impl Fault {
-    // The refusal's number, from 1.
+    // The refusal's number, from 1. A method for the reason of a term's number.
     pub fn number(self) -> u8
         ensures { result ≡ (refused self).0 }
     {
@@ -355,7 +357,7 @@ impl Fault {
         }
     }
 
-    // Where it is: a place in the file, a length, or the number of what is at fault.
+    // Where it is: a place in the file, a length, or the number of what is at fault. A method for the same reason.
     pub fn spot(self) -> u64
         ensures { result ≡ (refused self).1 }
     {
@@ -365,20 +367,20 @@ impl Fault {
             Fault::AnotherKind => 5,
             Fault::CountNotAllowed => 6,
             Fault::FileTooShort { length } | Fault::AnotherLength { length } => length as u64,
-            Fault::TermOutsideLimits { term } => term.number() as u64,
-            Fault::ArgumentOutsideLimits { argument } => argument as u64,
-            Fault::AfterGate { gate } => gate as u64,
-            Fault::AnotherSize { table } | Fault::Spoiled { table } => table.number() as u64,
+            Fault::TermOutsideLimits { term } => u64::from(term.number()),
+            Fault::ArgumentOutsideLimits { argument } => u64::from(argument),
+            Fault::AfterGate { gate } => u64::from(gate),
+            Fault::AnotherSize { table } | Fault::Spoiled { table } => u64::from(table.number()),
             Fault::OutputTooShort { needed }
             | Fault::JournalTooShort { needed }
             | Fault::HistoryFull { needed } => needed as u64,
             Fault::SenderNotPrimary { day }
             | Fault::SharingEnded { day }
-            | Fault::DayClosed { day } => day as u64,
+            | Fault::DayClosed { day } => u64::from(day),
             Fault::UnlawfulRow { period }
             | Fault::EstimateOverActual { period }
-            | Fault::ReadingMissing { period } => period as u64,
-            Fault::HolderMissing { place } => place as u64,
+            | Fault::ReadingMissing { period } => u64::from(period),
+            Fault::HolderMissing { place } => u64::from(place),
         }
     }
 }

@@ -152,7 +152,7 @@ fn energy(words: &mut Words<'_>) -> Result<u32, Fault>
     Ok(energy)
 }
 
-// The nominations, from the line's sixth word to its end.
+// The nominations, from the line's sixth word to its end. The figures of a season's line are read in the same way into an array of fixed size; a trait for a push that may or may not run out of memory would be no plainer than two loops.
 fn nominations(heap: Global, words: Words<'_>) -> Result<Vec<u32>, Unread>
     ensures { Gathers (words_left words.entry) result }
 {

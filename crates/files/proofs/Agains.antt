@@ -171,27 +171,6 @@ pub told_kind : (bs : List ℕ) (t : Told) (k : Kind) (a : Accepted bs t) → t.
 told_kind bs t k a e =
     one_kind a.kind k (sym (said_kind a.kind a.head) ∙ ap (λ t. t.kind) (sym a.says) ∙ e)
 
--- bytes of each record of a file of the kind
-abbrev pub record_size : Kind → ℕ
-record_size Schedule = row_size
-record_size Readings = reading_size
-record_size Statement = line_size
-
-records_said : (k : Kind) (h : Head) → length h.rest ≡ body_size k h.count → length (said k h).records ≡ h.count * record_size k
-records_said Schedule h long = length-drop 8 h.rest ∙ omega arith
-records_said Readings h long = long
-records_said Statement h long = long
-
--- an accepted file has as many record bytes as its count gives
-pub told_records : (bs : List ℕ) (t : Told) (k : Kind) → Accepted bs t → t.kind ≡ kind_number k → length t.records ≡ get_or t.numbers 0 0 * record_size k
-told_records bs t k a e =
-    let is = told_kind bs t k a e in
-    let size = ap record_size is in
-    let long = records_said a.kind a.head a.long in
-    let count = said_count a.kind a.head in
-    let says = a.says in
-    cc
-
 -- writing the records of an accepted file answers what writing it again does
 pub writing_again : (bs : List ℕ) (t : Told) (k : Kind) (room : ℕ) (r : Result ℕ Fault) → ◌≡◌ {A = Result Told Fault} (Ok t) (read_of bs) → t.kind ≡ kind_number k → r ≡ writing k (get_or t.numbers 0 0) room → r ≡ rewriting bs room
 writing_again bs t k room r e named written =

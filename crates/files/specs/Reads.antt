@@ -1,17 +1,17 @@
 -- What reading a file answers: which kind, which numbers and which record bytes, or which refusal.
-use Rattle.std.specs.Prelude.{ℕ, Bool, cond, ◌&&◌, List, [], ◌∷◌, length, take, drop, Some, None, Ok, Err, Option, Result, ◌==◌, nat_lt, slice_index}
+use Rattle.std.specs.Prelude.{ℕ, ◌+◌, ◌/◌, Bool, cond, ◌&&◌, List, [], ◌∷◌, length, take, drop, Some, None, Ok, Err, Option, Result, ◌==◌, nat_lt, slice_index}
 use Rattle.domain.specs.declared.Fault.{Fault}
 use Rattle.domain.specs.declared.Line.{Line}
 use Rattle.domain.specs.declared.Fault.TheVariants.{FileTooShort, AnotherMark, AnotherVersion, AnotherKind, CountNotAllowed, AnotherLength}
 use Rattle.files.specs.Bytes.{number16}
-use Rattle.files.specs.Records.{intro_size, decoded_intro}
+use Rattle.files.specs.Records.{intro_size, row_size, reading_size, line_size, decoded_intro}
 use Rattle.files.specs.Formats.{header_size, version, kind_number, kind_of, allowed, body_size}
 use Rattle.files.specs.declared.formats.Kind.{Kind}
 use Rattle.files.specs.declared.formats.Kind.TheVariants.{Schedule, Readings, Statement}
 use Rattle.files.specs.declared.records.Intro.{Intro}
 use Rattle.files.specs.declared.reader.Header.{Header}
 use Rattle.files.specs.declared.reader.ScheduleFile.{ScheduleFile}
-use Rattle.files.specs.declared.reader.ListFile.{ListFile}
+use Rattle.files.specs.declared.records.Records.{Records}
 use Rattle.files.specs.declared.records.ReadingRecord.{ReadingRecord}
 use Rattle.files.specs.declared.reader.File.{File}
 use Rattle.files.specs.declared.reader.File.TheVariants as file
@@ -41,23 +41,23 @@ seen_by see (Err fault) = Err fault
 
 -- the code's header
 abbrev pub head_seen : Header → Head
-head_seen h = record { kind = h.kind; count = h.count; size = h.size; rest = h.rest.now }
+head_seen h = record { kind = h.kind; count = h.count; size = header_size + length h.rest.now; rest = h.rest.now }
 
 -- kind byte, numbers and record bytes of a schedule that was read
 abbrev pub told_schedule : ScheduleFile → Told
-told_schedule f = record { kind = 1; numbers = f.count ∷ f.intro.sender ∷ f.intro.day ∷ f.intro.moment ∷ []; records = f.rows.bytes.now }
+told_schedule f = record { kind = 1; numbers = length f.rows.bytes.now / row_size ∷ f.intro.sender ∷ f.intro.day ∷ f.intro.moment ∷ []; records = f.rows.bytes.now }
 
--- those of a file of the kind that holds a list of records
-abbrev pub told_list : {R : Type 0} → Kind → ListFile R → Told
-told_list k f = record { kind = kind_number k; numbers = f.count ∷ []; records = f.records.bytes.now }
+-- those of a file of the kind that holds a list of records of a size
+abbrev pub told_list : {R : Type 0} → Kind → ℕ → Records R → Told
+told_list k size rs = record { kind = kind_number k; numbers = length rs.bytes.now / size ∷ []; records = rs.bytes.now }
 
 -- those of a readings file
-abbrev pub told_readings : ListFile ReadingRecord → Told
-told_readings = told_list Readings
+abbrev pub told_readings : Records ReadingRecord → Told
+told_readings = told_list Readings reading_size
 
 -- those of a statement
-abbrev pub told_statement : ListFile Line → Told
-told_statement = told_list Statement
+abbrev pub told_statement : Records Line → Told
+told_statement = told_list Statement line_size
 
 -- number and values of each case of a file read
 abbrev pub told : File → Told

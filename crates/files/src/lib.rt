@@ -8,7 +8,7 @@ mod writer;
 
 pub use formats::MAX_FILE;
 pub use reader::{
-    File, ListFile, ReadingsFile, ScheduleFile, StatementFile, read, read_readings, read_schedule,
+    File, ReadingsFile, ScheduleFile, StatementFile, read, read_readings, read_schedule,
     read_statement,
 };
 pub use records::{Intro, ReadingRecord, RecordIter, Records};

@@ -5,45 +5,37 @@ ghost use Rattle.files.specs.Formats.{body_size};
 ghost use Rattle.files.specs.Reads.{Told, seen_by, head_seen, told_schedule, told_list, told_readings, told_statement, told, opened, fitted, said, answered, read_of, read_kind_of};
 ghost use Rattle.files.specs.declared.formats.Kind.TheVariants as kind;
 
-use crate::formats::{INTRO, Kind, OfKind, VERSION};
+use crate::formats::{HEADER, INTRO, Kind, OfKind, VERSION};
 use crate::records::{Intro, Listed, ReadingRecord, Record, Records};
 use domain::{AllocationRow, Fault, Line};
 
-// A schedule: its count, the numbers before its rows, and its rows.
-#[derive(Clone, Copy)]
+// A schedule: the numbers before its rows, and its rows.
+#[derive(Clone, Copy, PartialEq, Eq, Debug)]
 pub struct ScheduleFile<'a> {
-    pub count: u16,
     pub intro: Intro,
     pub rows: Records<'a, AllocationRow>,
 }
 
-// A file that holds a list of records and nothing else: its count, and its records.
-#[derive(Clone, Copy)]
-pub struct ListFile<'a, R> {
-    pub count: u16,
-    pub records: Records<'a, R>,
-}
+// A readings file holds a list of readings, and nothing else.
+pub type ReadingsFile<'a> = Records<'a, ReadingRecord>;
 
-// A readings file.
-pub type ReadingsFile<'a> = ListFile<'a, ReadingRecord>;
-
-// A statement.
-pub type StatementFile<'a> = ListFile<'a, Line>;
+// A statement holds a list of lines, and nothing else.
+pub type StatementFile<'a> = Records<'a, Line>;
 
 // A file that was read, by its kind. The record bytes are a part of the input.
-#[derive(Clone, Copy)]
+#[derive(Clone, Copy, PartialEq, Eq, Debug)]
 pub enum File<'a> {
     Schedule(ScheduleFile<'a>),
     Readings(ReadingsFile<'a>),
     Statement(StatementFile<'a>),
 }
 
-// What a header says, with the file's length and the bytes past the header.
-#[derive(Clone, Copy)]
+// What a header says, with the bytes past the header.
+// The kind is a byte, tried by both readers: tried in `open`, it would need a definition of that answer beside `opened` and a step from it to each reader's, to save one call.
+#[derive(Clone, Copy, PartialEq, Eq, Debug)]
 pub(crate) struct Header<'a> {
     kind: u8,
     count: u16,
-    size: usize,
     rest: &'a [u8],
 }
 
@@ -72,14 +64,13 @@ impl<'a> Content<'a> for ScheduleFile<'a> {
 
     fn behind(header: Header<'a>) -> ScheduleFile<'a> {
         ScheduleFile {
-            count: header.count,
             intro: Intro::decode(&header.rest[..INTRO]),
             rows: Records::new(&header.rest[INTRO..]),
         }
     }
 }
 
-impl<'a, R: Listed> OfKind for ListFile<'a, R> {
+impl<'a, R: Listed> OfKind for Records<'a, R> {
     ghost KIND = { R.Listed.KIND };
 
     fn kind() -> Kind
@@ -89,14 +80,11 @@ impl<'a, R: Listed> OfKind for ListFile<'a, R> {
     }
 }
 
-impl<'a, R: Listed> Content<'a> for ListFile<'a, R> {
-    ghost told = { told_list R.Listed.KIND };
+impl<'a, R: Listed> Content<'a> for Records<'a, R> {
+    ghost told = { told_list R.Listed.KIND R.Record.SIZE };
 
-    fn behind(header: Header<'a>) -> ListFile<'a, R> {
-        ListFile {
-            count: header.count,
-            records: Records::new(header.rest),
-        }
+    fn behind(header: Header<'a>) -> Records<'a, R> {
+        Records::new(header.rest)
     }
 }
 
@@ -117,7 +105,6 @@ fn open(file: &[u8]) -> Result<Header<'_>, Fault>
     Ok(Header {
         kind: *kind,
         count,
-        size: file.len(),
         rest,
     })
 }
@@ -132,7 +119,8 @@ impl<'a> Header<'a> {
             return Err(Fault::CountNotAllowed);
         }
         if self.rest.len() != kind.body(count) {
-            return Err(Fault::AnotherLength { length: self.size });
+            let length = HEADER + self.rest.len();
+            return Err(Fault::AnotherLength { length });
         }
         Ok(())
     }
@@ -163,7 +151,7 @@ fn read_as<'a, C: Content<'a>>(file: &'a [u8]) -> Result<C, Fault>
     ensures { seen_by C.Content.told result ≡ read_kind_of C.OfKind.KIND file.now }
 {
     let header = open(file)?;
-    if header.kind != u8::from(C::kind()) {
+    if Kind::try_from(header.kind)? != C::kind() {
         return Err(Fault::AnotherKind);
     }
     header.content()

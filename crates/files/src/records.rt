@@ -101,6 +101,7 @@ pub(crate) fn write_records<R: Record>(records: &[R], out: &mut [u8])
 
 // Writes the records that the bytes stand for again, one after the other, and leaves what lies past them.
 // One function for these and those of `write_records` would take any iterator, and say of each of its runs what is said of a list here.
+// The places are counted as they are there, for the same reason.
 pub(crate) fn copy_records<R: Record>(bytes: &[u8], out: &mut [u8])
     requires whole { length bytes.now / R.Record.SIZE * R.Record.SIZE ≡ length bytes.now }
     requires room { length bytes.now ≤ length out.old }
@@ -113,6 +114,7 @@ pub(crate) fn copy_records<R: Record>(bytes: &[u8], out: &mut [u8])
 }
 
 // Reads as many records as `out` has room for from their bytes, one after the other.
+// A record is written by its index: of what a loop over `iter_mut` with `zip` wrote, a proof knows only the length.
 pub(crate) fn read_records<R: Record>(bytes: &[u8], out: &mut [R])
     requires { length bytes.now ≡ length out.old * R.Record.SIZE }
     ensures { out.new ≡ unpacked R.Record.decoded R.Record.SIZE (length out.old) bytes.now }
@@ -123,6 +125,7 @@ pub(crate) fn read_records<R: Record>(bytes: &[u8], out: &mut [R])
 }
 
 // The record at an index, or none past the last.
+#[tactic(auto, using(crate::specs::Packs::record_here, crate::specs::Packs::record_past))]
 fn record_at<R: Record>(bytes: &[u8], index: usize) -> Option<R>
     ensures { result ≡ record_in R.Record.decoded R.Record.SIZE bytes.now index }
 {
@@ -134,6 +137,7 @@ fn record_at<R: Record>(bytes: &[u8], index: usize) -> Option<R>
 }
 
 // The first record, with the bytes behind it, or none where there are fewer bytes than a record has.
+#[tactic(auto, using(crate::specs::Packs::records_more, crate::specs::Packs::records_none))]
 fn first_record<R: Record>(bytes: &[u8]) -> Option<(R, &[u8])>
     ensures { MatchOption result (records_in R.Record.decoded R.Record.SIZE bytes.now ≡ []) (λ p. records_in R.Record.decoded R.Record.SIZE bytes.now ≡ p.0 ∷ records_in R.Record.decoded R.Record.SIZE p.1.now) }
 {
@@ -142,7 +146,7 @@ fn first_record<R: Record>(bytes: &[u8]) -> Option<(R, &[u8])>
 }
 
 // Records of one type, one after the other in their bytes.
-#[derive(Clone, Copy)]
+#[derive(Clone, Copy, PartialEq, Eq, Debug)]
 pub struct Records<'a, R> {
     pub bytes: &'a [u8],
     of: PhantomData<R>,
@@ -150,13 +154,11 @@ pub struct Records<'a, R> {
 
 impl<'a, R: Record> Records<'a, R> {
     // The records that the bytes stand for.
-    pub(crate) fn new(bytes: &'a [u8]) -> Records<'a, R>
+    pub fn new(bytes: &'a [u8]) -> Records<'a, R>
         ensures { result.bytes.now ≡ bytes.now }
     {
-        Records {
-            bytes,
-            of: PhantomData,
-        }
+        let of = PhantomData;
+        Records { bytes, of }
     }
 
     // How many records there are.
@@ -174,12 +176,11 @@ impl<'a, R: Record> Records<'a, R> {
     }
 
     // The records from the first to the last.
+    #[tactic(auto, using(crate::specs::Packs::records_few))]
     pub fn iter(&self) -> RecordIter<'a, R>
         ensures bytes { result.bytes.now ≡ self.now.bytes.now }
-        ensures few { length (records_in R.Record.decoded R.Record.SIZE self.now.bytes.now) < 2 ^ 64 }
+        ensures few { length (records_in R.Record.decoded R.Record.SIZE self.now.bytes.now) < 2 ^ 63 }
     {
-        // What a slice's length can be is known once it is read.
-        let _len = self.bytes.len();
         RecordIter {
             bytes: self.bytes,
             of: PhantomData,
@@ -188,7 +189,7 @@ impl<'a, R: Record> Records<'a, R> {
 }
 
 // The records that are left of a list, from the first on.
-#[derive(Clone, Copy)]
+#[derive(Clone, Copy, PartialEq, Eq, Debug)]
 pub struct RecordIter<'a, R> {
     pub bytes: &'a [u8],
     of: PhantomData<R>,

@@ -1,15 +1,15 @@
 // Writing: files of the three kinds from records, the notice, and an accepted file again.
 
-ghost use Rattle.std.specs.Prelude.{◌≡◌, ℕ, ◌+◌, ◌*◌, ◌<◌, ◌≤◌, List, ◌++◌, length, take, IfOk, Ok, OnOk, ⊤};
+ghost use Rattle.std.specs.Prelude.{◌≡◌, ℕ, ◌+◌, ◌*◌, ◌/◌, ◌<◌, ◌≤◌, List, ◌++◌, length, take, IfOk, Ok, OnOk, ⊤};
 ghost use Rattle.std.specs.List.{flat_map, AllByRecursion};
-ghost use Rattle.files.specs.Records.{encoded_intro, WholeIntro, encoded_row, WholeRow};
+ghost use Rattle.files.specs.Records.{encoded_intro, WholeIntro, row_size, encoded_row, WholeRow};
 ghost use Rattle.files.specs.Formats.{kind_number, body_size, header_of, statement_size};
 ghost use Rattle.files.specs.Contents.{of_schedule, of_readings, of_statement, file_of, content_read, rewritten, writing, rewriting, over, settled, notice_of};
 ghost use Rattle.files.specs.declared.formats.Kind.TheVariants as kind;
 
 use crate::formats::{HEADER, INTRO, Kind, NOTICE, OfKind, header, write_header};
-use crate::reader::{File, ListFile, ScheduleFile, read};
-use crate::records::{Intro, Listed, ReadingRecord, Record, copy_records, write_records};
+use crate::reader::{File, ScheduleFile, read};
+use crate::records::{Intro, Listed, ReadingRecord, Record, Records, copy_records, write_records};
 use domain::{AllocationRow, Fault, Line};
 
 // What stands behind the header of a file that is to be written.
@@ -37,7 +37,7 @@ trait Body: OfKind {
 }
 
 // A list of records.
-#[derive(Clone, Copy)]
+#[derive(Clone, Copy, PartialEq, Eq, Debug)]
 struct List<'a, R>(&'a [R]);
 
 impl<'a, R: Listed> OfKind for List<'a, R> {
@@ -69,7 +69,7 @@ impl<'a, R: Listed> Body for List<'a, R> {
 }
 
 // A day's rows, with the numbers before them.
-#[derive(Clone, Copy)]
+#[derive(Clone, Copy, PartialEq, Eq, Debug)]
 struct Schedule<'a> {
     intro: Intro,
     rows: &'a [AllocationRow],
@@ -104,37 +104,37 @@ impl<'a> Body for Schedule<'a> {
     }
 }
 
-// A file that holds a list of records, whose records are written again.
-impl<'a, R: Listed> Body for ListFile<'a, R> {
-    ghost count = { λ file. file.count };
+// A list of records that was read, whose records are written again.
+impl<'a, R: Listed> Body for Records<'a, R> {
+    ghost count = { λ records. length records.bytes.now / R.Record.SIZE };
 
-    ghost bytes = { λ file. file.records.bytes.now };
+    ghost bytes = { λ records. records.bytes.now };
 
-    ghost sound = { λ file. length file.records.bytes.now ≡ file.count * R.Record.SIZE };
+    ghost sound = { λ records. length records.bytes.now / R.Record.SIZE * R.Record.SIZE ≡ length records.bytes.now };
 
     ghost whole = { λ _. ⊤ };
 
     fn count(self) -> usize {
-        usize::from(self.count)
+        self.len()
     }
 
     fn put(self, out: &mut [u8]) {
-        copy_records::<R>(self.records.bytes, out);
+        copy_records::<R>(self.bytes, out);
     }
 }
 
 // A schedule that was read, whose rows are written again.
 impl<'a> Body for ScheduleFile<'a> {
-    ghost count = { λ file. file.count };
+    ghost count = { λ file. length file.rows.bytes.now / row_size };
 
     ghost bytes = { λ file. encoded_intro file.intro ++ file.rows.bytes.now };
 
-    ghost sound = { λ file. length file.rows.bytes.now ≡ file.count * 34 };
+    ghost sound = { λ file. length file.rows.bytes.now / row_size * row_size ≡ length file.rows.bytes.now };
 
     ghost whole = { λ _. ⊤ };
 
     fn count(self) -> usize {
-        usize::from(self.count)
+        self.rows.len()
     }
 
     fn put(self, out: &mut [u8]) {
@@ -190,6 +190,7 @@ pub fn write_statement(lines: &[Line], out: &mut [u8]) -> Result<usize, Fault>
 }
 
 // Writes a schedule, and answers its bytes.
+// Sender, day and moment stand one by one, as callers have them: as the arguments of a call.
 pub fn write_schedule(
     sender: u16,
     day: u16,
@@ -217,6 +218,7 @@ pub fn statement_bytes(lines: u16) -> usize
 }
 
 // The notice that a schedule was accepted, as a file of its own.
+// Day, sender and moment stand one by one, as the arguments of a call, in a notice's own order: an `Intro` has a schedule's.
 pub fn notice(day: u16, sender: u16, moment: u32) -> [u8; 16]
     ensures { result ≡ notice_of day sender moment }
 {

@@ -104,11 +104,10 @@ mod tests {
 
     // The longest readings file, of zeros alone, under a header with this count.
     fn longest_readings(heap: Global, count: u16) -> Result<Vec<u8>, AllocError> {
+        let zeros = vec![in heap; 0u8; 4_096 * 8]?;
         let mut file = Vec::new(heap);
         file.extend_from_slice(&header(2, count))?;
-        for _ in 0..4_096 * 8 {
-            file.push(0)?;
-        }
+        file.extend_from_slice(zeros.as_slice())?;
         Ok(file)
     }
 
@@ -138,9 +137,9 @@ mod tests {
             Ok(MAX_FILE)
         );
         let file = read_statement(out.as_slice())?;
-        assert_eq!(rt; file.count, 4_096);
-        assert_eq!(rt; file.records.get(4_095), Some(LINE));
-        assert_eq!(rt; file.records.get(4_096), None);
+        assert_eq!(rt; file.len(), 4_096);
+        assert_eq!(rt; file.get(4_095), Some(LINE));
+        assert_eq!(rt; file.get(4_096), None);
         let more = vec![in rt.alloc(); LINE; 4_097]?;
         assert_eq!(rt;
             write_statement(more.as_slice(), out.as_mut_slice()),
@@ -157,9 +156,9 @@ mod tests {
         let File::Readings(file) = read(&out[0..24])? else {
             return Err(Fail::new("another kind"));
         };
-        assert_eq!(rt; file.records.get(0), Some(READING));
-        assert_eq!(rt; file.records.get(1), Some(READING));
-        assert_eq!(rt; file.records.get(2), None);
+        assert_eq!(rt; file.get(0), Some(READING));
+        assert_eq!(rt; file.get(1), Some(READING));
+        assert_eq!(rt; file.get(2), None);
         assert_eq!(rt; write_readings(&[], &mut out), Ok(8));
         Ok(())
     }
@@ -238,9 +237,9 @@ mod tests {
         let mut out = [0; 24];
         assert_eq!(rt; write_readings(&[READING, READING], &mut out), Ok(24));
         let file = read_readings(&out)?;
-        assert_eq!(rt; file.records.len(), 2);
-        assert_eq!(rt; file.records.iter().count(), 2);
-        for reading in file.records.iter() {
+        assert_eq!(rt; file.len(), 2);
+        assert_eq!(rt; file.iter().count(), 2);
+        for reading in file.iter() {
             assert_eq!(rt; reading, READING);
         }
         let text = format!(in rt.alloc(); "{READING}")?;

@@ -9,3 +9,4 @@ pub mod Changes
 pub mod Placing
 pub mod Days
 pub mod Numbered
+pub mod Mapped

@@ -109,7 +109,7 @@ impl<'a, T> History<'a, T> {
         best.map(|(index, _)| index)
     }
 
-    // The same for each Settlement Period as the subject, the first for period 1, in one pass over the entries.
+    // The same for each Settlement Period as the subject, the first for period 1, in one pass over the entries. The index is the answer here too.
     pub fn in_force_each(self, day: u16) -> [Option<usize>; DAY_ITEMS]
         ensures is { (k : ℕ) → k < periods → slice_index_or result k None ≡ in_force self.entry.entries.now (k + 1) day }
         ensures within { (k : ℕ) → k < periods → IfSome (slice_index_or result k None) (λ i. i < length self.entry.entries.now) }
@@ -127,7 +127,7 @@ impl<'a, T> History<'a, T> {
         bests.map(|best| best.map(|(index, _)| index))
     }
 
-    // For each Settlement Period as the subject, the index of its first entry of the day, in one pass. One function for this and `in_force_each` would take the test and the choice as closures, and be no plainer.
+    // For each Settlement Period as the subject, the index of its first entry of the day, in one pass, so the index is counted here too. One function for this and `in_force_each` would take the test and the choice as closures, and be no plainer.
     fn find_each(self, day: u16) -> [Option<usize>; DAY_ITEMS]
         ensures each { (k : ℕ) → k < periods → slice_index_or result k None ≡ found self.entry.entries.now (k + 1) day }
         ensures size { length result ≡ periods }
@@ -148,8 +148,22 @@ impl<T: Copy> History<'_, T> {
     pub fn entry_in_force(self, subject: u8, day: u16) -> Option<T>
         ensures { result ≡ entry_at self.entry.entries.now (in_force self.entry.entries.now subject day) }
     {
-        let index = self.in_force(subject, day)?;
-        Some(self.entries[index].entry)
+        self.entry_at(self.in_force(subject, day))
+    }
+
+    // The same for each Settlement Period as the subject, the first for period 1, in one pass over the entries.
+    pub fn entries_in_force(self, day: u16) -> [Option<T>; DAY_ITEMS]
+        ensures each { (k : ℕ) → k < periods → slice_index_or result k None ≡ entry_at self.entry.entries.now (in_force self.entry.entries.now (k + 1) day) }
+        ensures size { length result ≡ periods }
+    {
+        self.in_force_each(day).map(|at| self.entry_at(at))
+    }
+
+    // The entry at an index that was answered.
+    fn entry_at(self, at: Option<usize>) -> Option<T>
+        ensures { result ≡ entry_at self.entry.entries.now at }
+    {
+        self.entries.get(at?).map(|dated| dated.entry)
     }
 }
 

@@ -1,61 +1,20 @@
-// What the tests have in common: a small book with its tables, ready to be issued, and what a call answered.
+// What the tests have in common: a small book with its tables, ready to be issued, and its calls.
 use book::Book;
-use domain::{AllocationRow, Fault, Line, PERIODS, Quality, Reading, Run, Slot, Terms};
+use domain::{AllocationRow, Line, PERIODS, Quality, Reading, Run, Slot, Terms};
 use history::Dated;
 use rules::House;
+use samples::{NOBODY, READINGS, Refusal, SEVENTY, SLOTS, STRAY, refusal};
 use std::process::Abort;
 use std::test::*;
 
-// The sizes of the tables of readings and of what was issued, for two places and three days.
-pub(crate) const READINGS: usize = 144;
-
-pub(crate) const SLOTS: usize = 288;
-
-// 70% for place 0 and the rest for place 1.
-pub(crate) const SEVENTY: AllocationRow = AllocationRow {
-    method: 1,
-    balance: 1,
-    nominations: [7_000, 0, 0, 0, 0, 0, 0, 0],
-};
-
-// A fixed block of 30 kWh for place 0.
-pub(crate) const THIRTY: AllocationRow = AllocationRow {
-    method: 3,
-    balance: 1,
-    nominations: [30, 0, 0, 0, 0, 0, 0, 0],
-};
-
-// Elements that nobody has put or sent.
-const NOBODY: Dated<u16> = Dated {
-    subject: 9,
-    day: 9,
-    entry: 9,
-};
-
+// An element of a table of rows that nobody has put. The tests of the book have one with a row that is not lawful.
 const NO_ROW: Dated<AllocationRow> = Dated {
     subject: 99,
     day: 99,
     entry: SEVENTY,
 };
 
-const NO_LINE: Line = Line {
-    day: 9,
-    period: 99,
-    place: 9,
-    supplier: 0,
-    run: 9,
-    volume: i32::MIN,
-};
-
-// A refusal's number and spot, or none where the call was accepted.
-// The tests of the book have these lines too: a crate of its own for them would be no plainer.
-pub(crate) type Refusal = Option<(u8, u64)>;
-
-pub(crate) fn refusal<T: Drop>(answer: Result<T, Fault>) -> Refusal {
-    answer.err().map(|fault| (fault.number(), fault.spot()))
-}
-
-// A book of two places and three days, with a capacity of 60 kWh, and its tables.
+// A book of two places and three days, with a capacity of 60 kWh, and its tables. No type with others that keep a book and tables: these are arrays, of the sizes that these tests need.
 #[derive(Drop)]
 pub(crate) struct Desk {
     pub(crate) book: Book<House>,
@@ -66,7 +25,7 @@ pub(crate) struct Desk {
     pub(crate) journal: [Line; 96],
 }
 
-// An issue: how long each table is lent, the day and the run.
+// An issue: how long each table is lent, the day and the run. A run is a number, since some of them are no run on purpose.
 #[derive(Clone, Copy)]
 pub(crate) struct Issue {
     pub(crate) holders: usize,
@@ -104,7 +63,7 @@ fn shared(row: AllocationRow) -> Result<Desk, Fail> {
         rows: [NO_ROW; 48],
         readings: [Reading::NONE; READINGS + 1],
         issued: [Slot::NONE; SLOTS + 1],
-        journal: [NO_LINE; 96],
+        journal: [STRAY; 96],
     };
     desk.book.register(&mut desk.holders, 0, 0, 101)?;
     desk.book.register(&mut desk.holders, 1, 0, 102)?;

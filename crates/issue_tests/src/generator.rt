@@ -69,6 +69,7 @@ fn method(dice: &mut Dice, places: u8) -> u8 {
     }
 }
 
+// The balance place of a row, by its method's number, since that is what the row stores.
 fn balance(dice: &mut Dice, method: u8, places: u8) -> u8 {
     match method {
         3 | 4 => dice.small(places),
@@ -78,6 +79,7 @@ fn balance(dice: &mut Dice, method: u8, places: u8) -> u8 {
 }
 
 // What a place nominates: a part of the capacity that suffices for all, but a percentage at the last place but one, in steps of 5% so that halves are met.
+// The method is the number that the row stores.
 fn nomination(dice: &mut Dice, method: u8, places: u8, place: u8) -> u32 {
     let percentage = matches!(method, 1 | 5 | 7);
     if percentage && place.saturating_add(2) == places {
@@ -137,12 +139,20 @@ fn scheduling<'a>(dice: &mut Dice, schedules: &'a Schedules) -> Call<'a> {
     }
 }
 
+fn quality(dice: &mut Dice) -> Quality {
+    if dice.below(2) == 0 {
+        Quality::Estimated
+    } else {
+        Quality::Actual
+    }
+}
+
 // A reading, estimated or actual; now and then of a period that no day has.
 fn metering(dice: &mut Dice) -> Call<'static> {
     Call::Reading {
         day: dice.below(DAYS),
         period: dice.small(50),
-        quality: dice.small(2).wrapping_add(1),
+        quality: quality(dice) as u8,
         kwh: u32::from(dice.below(121)),
     }
 }
@@ -177,14 +187,8 @@ fn any<'a>(dice: &mut Dice, closing: bool, places: u8, schedules: &'a Schedules)
     }
 }
 
-// The list of a site.
-pub(crate) fn calls<'a>(
-    alloc: Global,
-    dice: &mut Dice,
-    places: u8,
-    schedules: &'a Schedules,
-) -> Result<Vec<Call<'a>>, AllocError> {
-    let mut calls = Vec::new(alloc);
+// A holder for each place.
+fn register(calls: &mut Vec<Call<'_>>, places: u8) -> Result<(), AllocError> {
     for place in 0..places {
         calls.push(Call::Register {
             place,
@@ -192,6 +196,15 @@ pub(crate) fn calls<'a>(
             supplier: SUPPLIERS[usize::from(place % 4)],
         })?;
     }
+    Ok(())
+}
+
+// The second of the schedules, until there are so many calls in all.
+fn schedule<'a>(
+    calls: &mut Vec<Call<'a>>,
+    places: u8,
+    schedules: &'a Schedules,
+) -> Result<(), AllocError> {
     for _ in places..HOLDERS_AND_SCHEDULES {
         calls.push(Call::Schedule {
             sender: SUPPLIERS[0],
@@ -200,6 +213,11 @@ pub(crate) fn calls<'a>(
             rows: &schedules[1],
         })?;
     }
+    Ok(())
+}
+
+// A reading of each half hour of each day.
+fn read(calls: &mut Vec<Call<'_>>, dice: &mut Dice) -> Result<(), AllocError> {
     for day in 0..DAYS {
         for period in 1..=PERIODS {
             calls.push(Call::Reading {
@@ -210,9 +228,11 @@ pub(crate) fn calls<'a>(
             })?;
         }
     }
-    for _ in 0..BEFORE_THE_ENDS {
-        calls.push(any(dice, false, places, schedules))?;
-    }
+    Ok(())
+}
+
+// An end that each supplier asks for.
+fn end(calls: &mut Vec<Call<'_>>) -> Result<(), AllocError> {
     for sender in SUPPLIERS {
         calls.push(Call::End {
             sender,
@@ -220,6 +240,24 @@ pub(crate) fn calls<'a>(
             moment: gate(2),
         })?;
     }
+    Ok(())
+}
+
+// The list of a site.
+pub(crate) fn calls<'a>(
+    alloc: Global,
+    dice: &mut Dice,
+    places: u8,
+    schedules: &'a Schedules,
+) -> Result<Vec<Call<'a>>, AllocError> {
+    let mut calls = Vec::new(alloc);
+    register(&mut calls, places)?;
+    schedule(&mut calls, places, schedules)?;
+    read(&mut calls, dice)?;
+    for _ in 0..BEFORE_THE_ENDS {
+        calls.push(any(dice, false, places, schedules))?;
+    }
+    end(&mut calls)?;
     for _ in 0..AFTER_THE_ENDS {
         calls.push(any(dice, true, places, schedules))?;
     }

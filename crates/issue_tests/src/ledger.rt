@@ -48,7 +48,7 @@ pub(crate) struct Split {
     parts: [Part; PLACES],
 }
 
-// An issue, and what it split in each half hour of its day.
+// An issue, with the number of its run, as the call gave it, and what it split in each half hour of its day.
 #[derive(Clone, Copy)]
 pub(crate) struct Issued {
     day: u16,
@@ -259,7 +259,7 @@ impl Part {
 }
 
 impl Split {
-    // The method by which it was split, or none where the first place had it all.
+    // The method by which it was split, as the number that the row stores, or none where the first place had it all.
     pub(crate) fn method(&self) -> Option<u8> {
         self.row.map(|row| row.method)
     }

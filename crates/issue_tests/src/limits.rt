@@ -1,5 +1,6 @@
 // An issue at its limits: 8, 11, 13 of a count, 16 and 20.
-use crate::desk::{DAY_0, DAY_1, Issue, READINGS, Refusal, SEVENTY, SLOTS, begun, ready};
+use crate::desk::{DAY_0, DAY_1, Issue, begun, ready};
+use samples::{READINGS, Refusal, SEVENTY, SLOTS};
 use std::test::*;
 
 // Day and run, and the refusal. The book has three days.

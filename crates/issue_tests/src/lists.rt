@@ -33,6 +33,7 @@ fn added_up<R: Abort + AllocGlobal>(
 }
 
 // Accepted calls of every kind, refused ones, and half hours split by all methods that such a site may have, and by none.
+// Methods are numbers, since that is what rows store.
 fn tests_enough(rt: &impl Abort, ledger: &Ledger<'_>, places: u8, methods: &[Option<u8>]) {
     assert!(rt; ledger.holders.len() > usize::from(places));
     assert!(rt; ledger.schedules.len() >= 3);

@@ -1,10 +1,10 @@
 // A long list of calls, as a small generator makes it, and beside it a second calculation: the lines of each half hour add up to what was read when its day was last issued.
 ghost use Rattle.std.specs.Prelude.{◌<◌, ◌≤◌};
 
-use crate::desk::{SEVENTY, THIRTY};
 use crate::generator::Dice;
 use crate::replays::replayed;
-use domain::{AllocationRow, Fault, Line, PERIODS, Quality, Run, Terms, reading_slot};
+use domain::{AllocationRow, Fault, Line, PERIODS, Quality, Run, Terms, gate, reading_slot};
+use samples::{SEVENTY, THIRTY};
 use season::{Accepted, Call, Outcome};
 use std::alloc::{AllocError, Global};
 use std::collections::BTreeMap;
@@ -17,7 +17,7 @@ const DAYS: u16 = 3;
 
 const LINES: usize = 2_000;
 
-// 20 kWh for place 0 as far as they go.
+// 20 kWh for place 0 as far as they go. Rows store a method's number.
 const CAPPED: AllocationRow = AllocationRow {
     method: 2,
     balance: 1,
@@ -43,6 +43,7 @@ fn pick(seed: u64, part: u32, below: u16) -> u16
     ((seed >> (part + 16)) % u64::from(below)) as u16
 }
 
+// The functions of generator.rt with the same names make other lists: of sites of two to eight places, with random rows and ends of the sharing, by several numbers for a call. Here a call of a site of two places is made from one number, with four fixed lists of rows and no ends.
 fn registering(seed: u64) -> Call<'static> {
     let stranger = pick(seed, 30, 8) == 0;
     Call::Register {
@@ -53,10 +54,16 @@ fn registering(seed: u64) -> Call<'static> {
 }
 
 fn metering(seed: u64) -> Call<'static> {
+    let estimated = pick(seed, 12, 2) == 0;
+    let quality = if estimated {
+        Quality::Estimated
+    } else {
+        Quality::Actual
+    };
     Call::Reading {
         day: pick(seed, 20, 3),
         period: pick(seed, 24, 49) as u8,
-        quality: 1 + pick(seed, 12, 2) as u8,
+        quality: quality as u8,
         kwh: u32::from(pick(seed, 30, 61)),
     }
 }
@@ -66,7 +73,7 @@ fn scheduling(seed: u64, lists: &Lists) -> Call<'_> {
     Call::Schedule {
         sender: 101 + pick(seed, 24, 2),
         day,
-        moment: 1_380 + u32::from(day) * 1_440 + u32::from(pick(seed, 28, 6) / 5),
+        moment: gate(day) + u32::from(pick(seed, 28, 6) / 5),
         rows: &lists[usize::from(pick(seed, 32, 4))],
     }
 }
@@ -89,16 +96,8 @@ fn made(seed: u64, lists: &Lists) -> Call<'_> {
     }
 }
 
-// The list. The generator also makes a number for each of the calls that come first.
-fn calls<'a>(alloc: Global, lists: &'a Lists) -> Result<Vec<Call<'a>>, AllocError> {
-    let mut calls = Vec::new(alloc);
-    for (place, supplier) in [(0, 101), (1, 102)] {
-        calls.push(Call::Register {
-            place,
-            day: 0,
-            supplier,
-        })?;
-    }
+// A reading of each half hour of each day.
+fn read(calls: &mut Vec<Call<'_>>) -> Result<(), AllocError> {
     for day in 0..DAYS {
         for period in 1..=PERIODS {
             calls.push(Call::Reading {
@@ -109,6 +108,20 @@ fn calls<'a>(alloc: Global, lists: &'a Lists) -> Result<Vec<Call<'a>>, AllocErro
             })?;
         }
     }
+    Ok(())
+}
+
+// The list. The generator also makes a number for each of the calls that come first.
+fn calls<'a>(alloc: Global, lists: &'a Lists) -> Result<Vec<Call<'a>>, AllocError> {
+    let mut calls = Vec::new(alloc);
+    for (place, supplier) in [(0, 101), (1, 102)] {
+        calls.push(Call::Register {
+            place,
+            day: 0,
+            supplier,
+        })?;
+    }
+    read(&mut calls)?;
     let mut dice = Dice { state: 7 };
     for _ in 0..calls.len() {
         dice.roll();
@@ -127,7 +140,7 @@ struct HalfHour {
     sent: i64,
 }
 
-// What the test keeps by itself, for each day and period, and of the calls that were refused and the issues.
+// What the test keeps by itself, for each day and period, and of the calls that were refused and the issues. It is no `Ledger`: that splits anew by a second calculation, and here what was read alone is compared.
 #[derive(Drop)]
 struct Tally {
     half_hours: BTreeMap<(u16, u8), HalfHour>,

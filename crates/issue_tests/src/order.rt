@@ -1,6 +1,7 @@
 // Which of two refusals of an issue comes first.
-use crate::desk::{DAY_1_FINAL, Desk, Issue, READINGS, Refusal, SLOTS, begun};
+use crate::desk::{DAY_1_FINAL, Desk, Issue, begun};
 use domain::{Quality, Reading, Slot};
+use samples::{READINGS, Refusal, SLOTS, attempts};
 use std::process::Abort;
 use std::test::*;
 
@@ -97,12 +98,9 @@ fn attempt(rt: &impl Abort, one: Option<Wrong>, other: Option<Wrong>) -> Result<
 
 #[test]
 fn of_two_the_first_is_answered(rt: HostRuntime) -> Result<(), Fail> {
-    assert_eq!(rt; attempt(&rt, None, None)?, None);
-    for (at, (one, expected)) in REFUSALS.iter().enumerate() {
-        assert_eq!(rt; attempt(&rt, Some(*one), None)?, Some(*expected));
-        for (other, _) in REFUSALS.iter().skip(at + 1) {
-            assert_eq!(rt; attempt(&rt, Some(*one), Some(*other))?, Some(*expected));
-        }
+    let attempts = attempts(rt.alloc(), &REFUSALS)?;
+    for tried in attempts.iter() {
+        assert_eq!(rt; attempt(&rt, tried.one, tried.other)?, tried.expected);
     }
     Ok(())
 }

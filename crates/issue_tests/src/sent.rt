@@ -1,7 +1,8 @@
 // What an issue has sent: volumes, and statements of the lines.
-use crate::desk::{DAY_0, Desk, Issue, Refusal, SEVENTY, THIRTY, begun, ready, refusal};
+use crate::desk::{DAY_0, Desk, Issue, begun, ready};
 use domain::{Line, Quality, Run};
 use files::read_statement;
+use samples::{Refusal, SEVENTY, THIRTY, refusal};
 use std::test::*;
 
 #[test]
@@ -95,12 +96,9 @@ fn read_back(rt: HostRuntime) -> Result<(), Fail> {
     let mut out = [0xaa; 40];
     assert_eq!(rt; desk.book.statement(&desk.journal, 0, 2, &mut out)?, 30);
     let statement = read_statement(&out[0..30])?;
-    assert_eq!(rt; statement.count, 2);
-    assert_eq!(rt;
-        statement.records.get(0).ok_or("no line")?,
-        line(0, 101, 21)
-    );
-    assert_eq!(rt; statement.records.get(1).ok_or("no line")?, line(1, 102, 9));
-    assert!(rt; statement.records.get(2).is_none());
+    assert_eq!(rt; statement.len(), 2);
+    assert_eq!(rt; statement.get(0).ok_or("no line")?, line(0, 101, 21));
+    assert_eq!(rt; statement.get(1).ok_or("no line")?, line(1, 102, 9));
+    assert!(rt; statement.get(2).is_none());
     Ok(())
 }

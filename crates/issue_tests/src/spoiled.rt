@@ -1,6 +1,7 @@
 // What an issue finds in the tables: 13 of an element, 18 and 19, before the end day and from it on.
-use crate::desk::{DAY_1, Harm, Issue, Refusal, begun};
+use crate::desk::{DAY_1, Harm, Issue, begun};
 use domain::{Quality, Reading, Slot};
+use samples::Refusal;
 use std::process::Abort;
 use std::test::*;
 
@@ -26,6 +27,7 @@ fn after(rt: &impl Abort, harm: Harm) -> Result<Refusal, Fail> {
 }
 
 // What stands in the slot of a reading, and the refusal: the readings of day 1 are in slots 48 to 95.
+// A quality is a number, since 3 is no quality and 0 an empty slot.
 const READ: [(usize, u8, u32, Refusal); 12] = [
     (95, 3, 0, Some((13, 3))),
     (95, 2, 0, None),

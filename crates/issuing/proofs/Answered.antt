@@ -1,12 +1,14 @@
 -- What an issue answers, and that what was looked up leads to what is in force.
-use Rattle.std.proofs.Common.{◌≡◌, ℕ, zero, suc, ◌+◌, ◌-◌, ◌*◌, ◌<◌, ◌≤◌, false, not, ◌&&◌, ◌||◌, eqb, leb, List, length, get_or, ℤ, pos, neg_ℤ, None, Ok, Err, Option, unwrap_or, sym, refl, ap, ◌∙◌, arith}
+use Rattle.std.proofs.Common.{◌≡◌, ℕ, zero, suc, ◌+◌, ◌-◌, ◌*◌, ◌<◌, ◌≤◌, false, not, ◌&&◌, ◌||◌, eqb, leb, List, length, get_or, ℤ, pos, neg_ℤ, None, Ok, Err, Option, Result, unwrap_or, sym, refl, ap, ◌∙◌, arith}
 use lib.Signed.{lt_z}
 use Rattle.std.proofs.lemmas.Bool.{le-leb, lt-leb, leb-true, or_parts}
 use Rattle.std.proofs.lemmas.Int.{ints}
+use Rattle.std.proofs.lemmas.Nat.{mul-add-lt}
 use Rattle.domain.specs.Limits.{periods, most_kwh}
-use Rattle.domain.specs.Slots.{reading_slot}
-use Rattle.domain.specs.Checks.{spoiled_slot, reading_at, slot_at, is_zero}
+use Rattle.domain.specs.Slots.{reading_slot, issued_slots}
+use Rattle.domain.specs.Checks.{unless, spoiled_slot, reading_at, slot_at, is_zero}
 use Rattle.domain.specs.Lines.{line_of, slot_lines}
+use Rattle.domain.specs.declared.Line.{Line}
 use Rattle.domain.specs.declared.AllocationRow.{AllocationRow}
 use Rattle.domain.specs.declared.Reading.{Reading}
 use Rattle.domain.specs.declared.Slot.{Slot}
@@ -16,15 +18,20 @@ use Rattle.domain.specs.declared.terms.Terms.{Terms}
 use Rattle.history.specs.declared.Dated.{Dated}
 use Rattle.rules.specs.Meaning.{Meaning}
 use Rattle.rows.specs.Rows.{Tame, share_of}
+use Rattle.issuing.specs.declared.Order.{Order}
 use Rattle.issuing.specs.declared.Standing.{Standing}
 use Rattle.issuing.specs.declared.sheet.Sheet.{Sheet}
 use Rattle.issuing.specs.Posted.{filled}
+use Rattle.issuing.specs.Slots.{slot_of_day, spoiled_before}
 use Rattle.issuing.specs.Days.{place_lines, period_lines, lines_of, filled_before}
-use Rattle.issuing.specs.Plans.{slot_by}
-use Rattle.issuing.specs.Issue.{supplier_on, row_on, issue_checked, next_slot, day_lines, issued_after, issue_answer}
+use Rattle.issuing.specs.Plans.{slot_by, TamePeriod}
+use Rattle.issuing.specs.Known.{OnDay}
+use Rattle.issuing.specs.Issue.{supplier_on, row_on, next_slot, day_lines, issued_after, issue_answer}
 use Rattle.issuing.specs.Granted.{Granted}
-use Rattle.issuing.proofs.Chains.{past, stop, past_unless, stop_unless, unless_ok}
-use Rattle.issuing.proofs.Stages.{checked_then, granted}
+use Rattle.issuing.proofs.Chains.{past_unless, stop_unless, unless_ok}
+use Rattle.issuing.proofs.Stages.{granted}
+use Rattle.issuing.proofs.Firsts.{first_below}
+use Rattle.issuing.proofs.Passed.{day_slot}
 use Rattle.issuing.proofs.Gathered.{gathered_same, filled_same}
 
 -- a slot that is not spoiled holds a volume within what a meter can count
@@ -48,44 +55,61 @@ module _ (t : Terms) (f g : ℕ → ℕ → Slot) (day run : ℕ) (alike : (p q 
   slots_alike (suc i) h issued =
       ap (filled (f (i + 1)) (reading_slot day (i + 1) * t.places) t.places) (slots_alike i (omega arith) issued) ∙ filled_same (f (i + 1)) (g (i + 1)) (reading_slot day (i + 1) * t.places) t.places (filled_before t.places g day i issued) (λ q l. alike (i + 1) q (omega arith) (omega arith) l)
 
-module _ (m : Meaning) (t : Terms) (k : Standing) (holders : List (Dated ℕ)) (rows : List (Dated AllocationRow)) (readings : List Reading) where
+-- what an accepted issue grants: each check, room for its lines, and their number
+pub accepted : (m : Meaning) (t : Terms) (k : Standing) (holders : List (Dated ℕ)) (rows : List (Dated AllocationRow)) (readings : List Reading) (issued : List Slot) (room day run n : ℕ) → issue_answer m t k holders rows readings issued room day run ≡ Ok n → Granted m t k holders rows readings issued room day run × (k.lines + length (day_lines m t k holders rows readings issued day run) ≤ room) × (n ≡ length (day_lines m t k holders rows readings issued day run))
+accepted m t k holders rows readings issued room day run n h =
+    let g = granted m t k holders rows readings issued room day run _ h in
+    let l = unless_ok _ (leb (k.lines + length (day_lines m t k holders rows readings issued day run)) room) (JournalTooShort (k.lines + length (day_lines m t k holders rows readings issued day run))) g.1 in
+    (g.0, leb-true _ _ l.0, (cc))
+
+-- an order, and what its issue answers
+module _ {R : Type 0} (m : Meaning) (o : Order R) (issued : List Slot) where
+  abbrev due : List Line
+  due = day_lines m o.terms o.standing o.holders.now o.rows.now o.readings.now issued o.day o.run
+
+  -- what comes behind the checks: the journal's room
+  abbrev pub ending : ℕ → Result ℕ Fault
+  ending room =
+      unless (leb (o.standing.lines + length due) room) (JournalTooShort (o.standing.lines + length due)) (Ok (length due))
+
+  -- where no slot of the day is spoiled, each has a volume that a meter counts
+  pub tame_before : spoiled_before o.terms issued o.day (issued_slots o.terms.places 1) ≡ None → (p : ℕ) → 1 ≤ p → p ≤ periods → TamePeriod o.terms issued o.day p
+  tame_before clear p low high q l =
+      tame_slot _ (ap spoiled_slot (sym (day_slot o.terms issued o.day p q low)) ∙ first_below (λ i. spoiled_slot (slot_of_day o.terms issued o.day i)) (issued_slots o.terms.places 1) clear ((p - 1) * o.terms.places + q) (omega (arith, mul-add-lt (p - 1) o.terms.places q 48 (omega arith) l)))
+
   -- a sheet with what is in force
-  module _ (day : ℕ) (sheet : Sheet) (suppliers : (q : ℕ) → q < t.places → get_or sheet.holders q None ≡ supplier_on k holders day q) (splits : (i : ℕ) → i < periods → get_or sheet.rows i None ≡ row_on k rows day (i + 1)) where
-    by_sheet : (p q : ℕ) → 1 ≤ p → p ≤ periods → q < t.places → slot_by m t sheet readings day p q ≡ next_slot m t k holders rows readings day p q
+  module _ (sheet : Sheet) (known : OnDay m o.terms o.standing o.holders.now o.rows.now o.day sheet) where
+    -- the slots as the plan has them
+    abbrev next : ℕ → ℕ → Slot
+    next = slot_by m o.terms sheet o.readings.now o.day
+
+    by_sheet : (p q : ℕ) → 1 ≤ p → p ≤ periods → q < o.terms.places → next p q ≡ next_slot m o.terms o.standing o.holders.now o.rows.now o.readings.now o.day p q
     by_sheet p q low high l =
         let back : p - 1 + 1 ≡ p = omega arith in
-        let row : get_or sheet.rows (p - 1) None ≡ row_on k rows day p = splits (p - 1) (omega arith) ∙ ap (row_on k rows day) back in
-        let e = (reading_at readings day p).kwh in
-        ap (λ (o : Option ℕ). slot_of (unwrap_or o 0) (share_of m t (get_or sheet.rows (p - 1) None) p e q)) (suppliers q l) ∙ ap (λ (r : Option AllocationRow). slot_of (unwrap_or (supplier_on k holders day q) 0) (share_of m t r p e q)) row
+        let row : get_or sheet.rows (p - 1) None ≡ row_on o.standing o.rows.now o.day p = known.splits (p - 1) (omega arith) ∙ ap (row_on o.standing o.rows.now o.day) back in
+        let e = (reading_at o.readings.now o.day p).kwh in
+        ap (λ (h : Option ℕ). slot_of (unwrap_or h 0) (share_of m o.terms (get_or sheet.rows (p - 1) None) p e q)) (known.suppliers q l) ∙ ap (λ (r : Option AllocationRow). slot_of (unwrap_or (supplier_on o.standing o.holders.now o.day q) 0) (share_of m o.terms r p e q)) row
       where
         slot_of : ℕ → ℤ → Slot
         slot_of s v = record { supplier = s; volume = v }
 
-    pub lines_same : (issued : List Slot) (run : ℕ) → lines_of t issued (slot_by m t sheet readings day) day run ≡ day_lines m t k holders rows readings issued day run
-    lines_same issued run = lines_alike t (slot_by m t sheet readings day) (next_slot m t k holders rows readings day) day run by_sheet issued
+    pub lines_same : lines_of o.terms issued next o.day o.run ≡ due
+    lines_same =
+        lines_alike o.terms next (next_slot m o.terms o.standing o.holders.now o.rows.now o.readings.now o.day) o.day o.run by_sheet issued
 
-    pub slots_same : (issued : List Slot) → filled_before t.places (slot_by m t sheet readings day) day periods issued ≡ issued_after m t k holders rows readings issued day
-    slots_same issued =
-        slots_alike t (slot_by m t sheet readings day) (next_slot m t k holders rows readings day) day 0 by_sheet periods (omega arith) issued
+    pub slots_same : filled_before o.terms.places next o.day periods issued ≡ issued_after m o.terms o.standing o.holders.now o.rows.now o.readings.now issued o.day
+    slots_same =
+        slots_alike o.terms next (next_slot m o.terms o.standing o.holders.now o.rows.now o.readings.now o.day) o.day 0 by_sheet periods (omega arith) issued
 
-  module _ (issued : List Slot) (room day run : ℕ) where
-    -- refused by a check that comes before the lines are counted
-    pub refused_before : (e : Fault) → Err e ≡ issue_checked m t k holders rows readings {A = Unit} issued room day run (Ok tt) → Err e ≡ issue_answer m t k holders rows readings issued room day run
-    refused_before e h = sym (stop _ _ _ e (checked_then _ m t k holders rows readings issued room day run) h)
+    module _ (room new : ℕ) (count : new ≡ length (lines_of o.terms issued next o.day o.run)) where
+      counted : new ≡ length due
+      counted = count ∙ ap length lines_same
 
-    module _ (passed : Ok tt ≡ issue_checked m t k holders rows readings {A = Unit} issued room day run (Ok tt)) (new : ℕ) (count : new ≡ length (day_lines m t k holders rows readings issued day run)) where
       -- no room for the lines
-      pub refused_room : room < k.lines + new → Err (JournalTooShort (k.lines + new)) ≡ issue_answer m t k holders rows readings issued room day run
+      pub refused_room : room < o.standing.lines + new → Err (JournalTooShort (o.standing.lines + new)) ≡ ending room
       refused_room short =
-          ap (λ (n : ℕ). Err (JournalTooShort (k.lines + n))) count ∙ sym (past _ _ _ (checked_then _ m t k holders rows readings issued room day run) passed ∙ stop_unless _ (leb (k.lines + length (day_lines m t k holders rows readings issued day run)) room) _ (lt-leb _ _ (omega arith)))
+          ap (λ (n : ℕ). Err (JournalTooShort (o.standing.lines + n))) counted ∙ sym (stop_unless _ (leb (o.standing.lines + length due) room) _ (lt-leb _ _ (rw counted at short)))
 
-      pub sends : k.lines + new ≤ room → Ok new ≡ issue_answer m t k holders rows readings issued room day run
+      pub sends : o.standing.lines + new ≤ room → Ok new ≡ ending room
       sends fits =
-          ap Ok count ∙ sym (past _ _ _ (checked_then _ m t k holders rows readings issued room day run) passed ∙ past_unless _ (leb (k.lines + length (day_lines m t k holders rows readings issued day run)) room) _ (le-leb _ _ (omega arith)))
-
-    -- what an accepted issue grants: each check, room for its lines, and their number
-    pub accepted : (n : ℕ) → issue_answer m t k holders rows readings issued room day run ≡ Ok n → Granted m t k holders rows readings issued room day run × (k.lines + length (day_lines m t k holders rows readings issued day run) ≤ room) × (n ≡ length (day_lines m t k holders rows readings issued day run))
-    accepted n h =
-        let g = granted m t k holders rows readings issued room day run _ h in
-        let l = unless_ok _ (leb (k.lines + length (day_lines m t k holders rows readings issued day run)) room) (JournalTooShort (k.lines + length (day_lines m t k holders rows readings issued day run))) g.1 in
-        (g.0, leb-true _ _ l.0, (cc))
+          ap Ok counted ∙ sym (past_unless _ (leb (o.standing.lines + length due) room) _ (le-leb _ _ (rw counted at fits)))

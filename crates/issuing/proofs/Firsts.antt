@@ -1,10 +1,10 @@
 -- The first of some numbers that fails a check: looked for one by one.
-use Rattle.std.proofs.Common.{◌≡◌, subst, drop, get_or-take, get_or-drop, ◌||◌, List, [], ◌∷◌, length, get_or, take, is_some, ℕ, zero, suc, ◌+◌, ◌-◌, ◌<◌, ◌≤◌, Bool, true, false, cond, Some, None, Ok, Err, Option, Result, sym, refl, ap, ◌∙◌, ⊎_elim, arith}
+use Rattle.std.proofs.Common.{◌≡◌, ◌||◌, List, [], ◌∷◌, length, get_or, is_some, ℕ, zero, suc, ◌+◌, ◌-◌, ◌<◌, ◌≤◌, Bool, true, false, cond, Some, None, Ok, Err, Option, Result, sym, refl, ap, ◌∙◌, ⊎_elim, arith}
 use Rattle.domain.specs.declared.Fault.{Fault}
-use Rattle.std.specs.List.{list_any}
-use Rattle.std.proofs.lemmas.List.{take_more, take_all, length-take-le, length-drop}
-use Rattle.std.proofs.lemmas.List.Folds.{list_any-append}
-use Rattle.std.proofs.lemmas.Bool.{cases_eq, false≢true}
+use Rattle.std.specs.List.{list_any, find, range_with_len, zip}
+use Rattle.std.specs.Option.{option_map}
+use denote.Ref.{Bor}
+use Rattle.std.proofs.lemmas.Bool.{cases_eq}
 use Rattle.history.specs.Latest.{or_else}
 use Rattle.issuing.specs.First.{first_where, unless_found}
 
@@ -41,13 +41,6 @@ module _ (bad : ℕ → Bool) where
       e : n ≡ m + 1 + (n - (m + 1))
       e = omega arith
 
-  -- nothing found at the end of the search
-  pub first_all : (m n : ℕ) → first_where bad m ≡ None → n ≤ m → m ≤ n → first_where bad n ≡ None
-  first_all m n none low high = ap (first_where bad) e ∙ none
-    where
-      e : n ≡ m
-      e = omega arith
-
   or_none : (o : Option ℕ) (b : Bool) (m : ℕ) → or_else o (cond b (Some m) None) ≡ None → (o ≡ None) × (b ≡ false)
   or_none None true m h = let z : ◌≡◌ {A = ℕ} 0 1 = cc in absurd (omega arith)
   or_none None false m h = (refl, refl)
@@ -61,6 +54,13 @@ module _ (bad : ℕ → Bool) where
       let both = or_none (first_where bad n) (bad n) n none in
       ⊎_elim (λ (e : k ≡ n). ap bad e ∙ both.1) (λ (e : k ≡ n → ⊥). first_below n both.0 k (omega (arith, e))) (cases_eq k n)
 
+  -- and the other way round
+  pub first_all : (n : ℕ) → ((k : ℕ) → k < n → bad k ≡ false) → first_where bad n ≡ None
+  unfolding first_where
+  first_all zero good = refl
+  first_all (suc n) good =
+      rw (first_all n (λ k l. good k (omega arith)), good n (omega arith)) refl
+
 -- the same search
 pub first_same : (f g : ℕ → Bool) (n : ℕ) → ((k : ℕ) → k < n → f k ≡ g k) → first_where f n ≡ first_where g n
 unfolding first_where
@@ -68,80 +68,76 @@ first_same f g zero same = refl
 first_same f g (suc n) same =
     ap (λ o. or_else o (cond (f n) (Some n) None)) (first_same f g n (λ k l. same k (omega arith))) ∙ ap (λ b. or_else (first_where g n) (cond b (Some n) None)) (same n (omega arith))
 
--- the refusal of what is found after nothing was found before
-pub found_here : (bad : ℕ → Bool) (fault : ℕ → Fault) (m n : ℕ) → first_where bad m ≡ None → bad m ≡ true → m < n → ◌≡◌ {A = Result Unit Fault} (Err (fault m)) (unless_found (first_where bad n) fault (Ok tt))
-found_here bad fault m n none is within =
-    sym (ap (λ (o : Option ℕ). unless_found o fault (Ok tt)) (first_here bad m n none is within))
+-- the same search, from its first number on
+front : (bad : ℕ → Bool) (n : ℕ) → first_where bad (suc n) ≡ cond (bad 0) (Some 0) (option_map suc (first_where (λ i. bad (suc i)) n))
+unfolding first_where
+front bad zero = refl
+front bad (suc n) =
+    ap (λ (o : Option ℕ). or_else o (cond (bad (suc n)) (Some (suc n)) None)) (front bad n) ∙ go (bad 0) (bad (suc n)) (first_where (λ i. bad (suc i)) n)
+  where
+    go : (b last : Bool) (o : Option ℕ) → or_else (cond b (Some 0) (option_map suc o)) (cond last (Some (suc n)) None) ≡ cond b (Some 0) (option_map suc (or_else o (cond last (Some n) None)))
+    go true last o = refl
+    go false true None = refl
+    go false false None = refl
+    go false last (Some i) = refl
 
--- the same search, counted from 1 and at the number p
-module _ (bad : ℕ → Bool) (p : ℕ) (low : 1 ≤ p) (none : first_where (λ i. bad (i + 1)) (p - 1) ≡ None) where
-  again : p - 1 + 1 ≡ p
-  again = omega arith
-
-  pub number_more : bad p ≡ false → first_where (λ i. bad (i + 1)) (p + 1 - 1) ≡ None
-  number_more good =
-      let next : p + 1 - 1 ≡ p - 1 + 1 = omega arith in
-      ap (first_where (λ i. bad (i + 1))) next ∙ first_more (λ i. bad (i + 1)) (p - 1) none (ap bad again ∙ good)
-
-  pub number_here : (n : ℕ) → bad p ≡ true → p ≤ n → first_where (λ i. bad (i + 1)) n ≡ Some (p - 1)
-  number_here n is within = first_here (λ i. bad (i + 1)) (p - 1) n none (ap bad again ∙ is) (omega arith)
-
-  pub number_found : (fault : ℕ → Fault) (n : ℕ) → bad p ≡ true → p ≤ n → ◌≡◌ {A = Result Unit Fault} (Err (fault p)) (unless_found (first_where (λ i. bad (i + 1)) n) (λ i. fault (i + 1)) (Ok tt))
-  number_found fault n is within =
-      ap (λ (k : ℕ). Err (fault k)) (sym again) ∙ sym (ap (λ (o : Option ℕ). unless_found o (λ i. fault (i + 1)) (Ok tt)) (number_here n is within))
-
-  pub number_none : (n : ℕ) → n + 1 ≤ p → p ≤ n + 1 → first_where (λ i. bad (i + 1)) n ≡ None
-  number_none n least most = first_all (λ i. bad (i + 1)) (p - 1) n none (omega arith) (omega arith)
-
--- whether anything is found
-either : (o : Option ℕ) (b : Bool) (n : ℕ) → is_some (or_else o (cond b (Some n) None)) ≡ (is_some o || (b || false))
-either None true n = refl
-either None false n = refl
-either (Some i) b n = refl
+module _ {X : Type 0} (test : X → Bool) (d : X) where
+  -- whether anything is found in a list
+  any_all : (xs : List X) (bad : ℕ → Bool) → ((i : ℕ) → i < length xs → bad i ≡ test (get_or xs i d)) → list_any test xs ≡ is_some (first_where bad (length xs))
+  unfolding first_where
+  any_all [] bad same = refl
+  any_all (x ∷ xs) bad same =
+      ap (λ (b : Bool). b || list_any test xs) (sym (same 0 (omega arith)))
+      ∙ ap (λ (b : Bool). bad 0 || b) (any_all xs (λ i. bad (suc i)) (λ i h. same (suc i) (omega arith)))
+      ∙ either (bad 0) (first_where (λ i. bad (suc i)) (length xs))
+      ∙ sym (ap is_some (front bad (length xs)))
+    where
+      either : (b : Bool) (o : Option ℕ) → (b || is_some o) ≡ is_some (cond b (Some 0) (option_map suc o))
+      either true o = refl
+      either false None = refl
+      either false (Some i) = refl
 
 module _ {X : Type 0} (test : X → Bool) (xs : List X) (d : X) (bad : ℕ → Bool) (same : (i : ℕ) → i < length xs → bad i ≡ test (get_or xs i d)) where
-  any_before : (n : ℕ) → n ≤ length xs → list_any test (take n xs) ≡ is_some (first_where bad n)
-  unfolding first_where
-  any_before zero h = refl
-  any_before (suc n) h =
-      let within : n < length xs = omega arith in
-      let P : ℕ → Type 0 = λ k. list_any test (take k xs) ≡ is_some (first_where bad k) in
-      let next : n + 1 ≡ suc n = omega arith in
-      subst P next (ap (list_any test) (take_more xs n d within) ∙ list_any-append test (take n xs) (get_or xs n d ∷ []) ∙ ap (λ (b : Bool). b || (test (get_or xs n d) || false)) (any_before n (omega arith)) ∙ ap (λ (b : Bool). is_some (first_where bad n) || (b || false)) (sym (same n within)) ∙ sym (ap is_some (step bad n) ∙ either (first_where bad n) (bad n) n))
-
-  any_first : (n : ℕ) → length xs ≡ n → list_any test xs ≡ is_some (first_where bad n)
-  any_first n size =
-      ap (list_any test) (sym (take_all (length xs) xs (omega arith))) ∙ any_before (length xs) (omega arith) ∙ ap (λ (k : ℕ). is_some (first_where bad k)) size
+  pub any_first : (n : ℕ) → length xs ≡ n → list_any test xs ≡ is_some (first_where bad n)
+  any_first n size = any_all test d xs bad same ∙ ap (λ (k : ℕ). is_some (first_where bad k)) size
 
   -- the refusal where something is found, and none where nothing is
-  any_found : (n : ℕ) (fault : Fault) → length xs ≡ n → list_any test xs ≡ true → ◌≡◌ {A = Result Unit Fault} (Err fault) (unless_found (first_where bad n) (λ _. fault) (Ok tt))
-  any_found n fault size is = go (first_where bad n) (sym (any_first n size) ∙ is)
+  pub any_answered : (n : ℕ) (fault : Fault) → length xs ≡ n → (r : Bool) → r ≡ list_any test xs → ◌≡◌ {A = Result Unit Fault} (cond r (Err fault) (Ok tt)) (unless_found (first_where bad n) (λ _. fault) (Ok tt))
+  any_answered n fault size r is =
+      ap (λ (b : Bool). cond b (Err fault) (Ok tt)) (is ∙ any_first n size) ∙ go (first_where bad n)
     where
-      go : (o : Option ℕ) → is_some o ≡ true → ◌≡◌ {A = Result Unit Fault} (Err fault) (unless_found o (λ _. fault) (Ok tt))
-      go None h = absurd (false≢true h)
-      go (Some i) h = refl
+      go : (o : Option ℕ) → ◌≡◌ {A = Result Unit Fault} (cond (is_some o) (Err fault) (Ok tt)) (unless_found o (λ _. fault) (Ok tt))
+      go None = refl
+      go (Some i) = refl
 
-  none_found : (n : ℕ) (fault : Fault) → length xs ≡ n → list_any test xs ≡ false → ◌≡◌ {A = Result Unit Fault} (Ok tt) (unless_found (first_where bad n) (λ _. fault) (Ok tt))
-  none_found n fault size is = go (first_where bad n) (sym (any_first n size) ∙ is)
-    where
-      go : (o : Option ℕ) → is_some o ≡ false → ◌≡◌ {A = Result Unit Fault} (Ok tt) (unless_found o (λ _. fault) (Ok tt))
-      go None h = refl
-      go (Some i) h = absurd (false≢true (sym h))
+-- of the numbers from a on, each beside an item, the first that fails the check
+found_beside : {X : Type 0} (test : ℕ × X → Bool) (d : X) (a n : ℕ) (xs : List X) (bad : ℕ → Bool) → n ≤ length xs → ((i : ℕ) → i < n → bad i ≡ test (a + i, get_or xs i d)) → option_map (λ (p : ℕ × X). p.0) (find test (zip (range_with_len a n) xs)) ≡ option_map (λ i. a + i) (first_where bad n)
+unfolding first_where
+found_beside test d a zero xs bad enough same = refl
+found_beside test d a (suc n) [] bad enough same = absurd (omega arith)
+found_beside {X} test d a (suc n) (x ∷ xs) bad enough same =
+    let start : a + 0 ≡ a = omega arith in
+    let first : bad 0 ≡ test (a, x) = same 0 (omega arith) ∙ ap (λ (k : ℕ). test (k, x)) start in
+    let after : (i : ℕ) → i < n → bad (suc i) ≡ test (a + 1 + i, get_or xs i d) = λ i h. let k : a + suc i ≡ a + 1 + i = omega arith in same (suc i) (omega arith) ∙ ap (λ (j : ℕ). test (j, get_or xs i d)) k in
+    go (test (a, x)) (find test (zip (range_with_len (a + 1) n) xs)) (first_where (λ i. bad (suc i)) n) (found_beside test d (a + 1) n xs (λ i. bad (suc i)) (omega arith) after) ∙ sym (ap (option_map (λ i. a + i)) (front bad n ∙ ap (λ (b : Bool). cond b (Some 0) (option_map suc (first_where (λ i. bad (suc i)) n))) first))
+  where
+    shift : (o : Option ℕ) → option_map (λ i. a + 1 + i) o ≡ option_map (λ i. a + i) (option_map suc o)
+    shift None = refl
+    shift (Some i) = ap Some (omega arith)
 
--- the same over a part of a table
-module _ {X : Type 0} (test : X → Bool) (table : List X) (d : X) (bad : ℕ → Bool) (first m n : ℕ) (size : m ≡ n) (room : first + m ≤ length table) (same : (i : ℕ) → i < n → bad i ≡ test (get_or table (first + i) d)) {r : Bool} (is : r ≡ list_any test (take (first + m - first) (drop first table))) where
-  some : first + m - first ≡ m
-  some = omega arith
+    go : (b : Bool) (p : Option (ℕ × X)) (o : Option ℕ) → option_map (λ (p : ℕ × X). p.0) p ≡ option_map (λ i. a + 1 + i) o → option_map (λ (p : ℕ × X). p.0) (cond b (Some (a, x)) p) ≡ option_map (λ i. a + i) (cond b (Some 0) (option_map suc o))
+    go true p o e = ap Some (omega arith)
+    go false p o e = e ∙ shift o
 
-  long : length (take (first + m - first) (drop first table)) ≡ n
-  long = length-take-le (first + m - first) (drop first table) (omega (arith, length-drop first table)) ∙ some ∙ size
+-- what a search that found r among them refuses
+pub answered_beside : {X : Type 0} (test : ℕ × X → Bool) (d : X) (a n : ℕ) (xs : List X) (bad : ℕ → Bool) (fault f : ℕ → Fault) → n ≤ length xs → ((i : ℕ) → i < n → bad i ≡ test (a + i, get_or xs i d)) → ((i : ℕ) → f i ≡ fault (a + i)) → (r : Option (ℕ × Bor X)) → option_map (λ (p : ℕ × Bor X). (p.0, p.1.now)) r ≡ find test (zip (range_with_len a n) xs) → ◌≡◌ {A = Result Unit Fault} (unless_found (option_map (λ (p : ℕ × Bor X). p.0) r) fault (Ok tt)) (unless_found (first_where bad n) f (Ok tt))
+answered_beside {X} test d a n xs bad fault f enough same number r is =
+    ap (λ (o : Option ℕ). unless_found o fault (Ok tt)) (number_of r ∙ ap (option_map (λ (p : ℕ × X). p.0)) is ∙ found_beside test d a n xs bad enough same) ∙ refused (first_where bad n)
+  where
+    number_of : (r : Option (ℕ × Bor X)) → option_map (λ (p : ℕ × Bor X). p.0) r ≡ option_map (λ (p : ℕ × X). p.0) (option_map (λ (p : ℕ × Bor X). (p.0, p.1.now)) r)
+    number_of None = refl
+    number_of (Some p) = refl
 
-  each : (i : ℕ) → i < length (take (first + m - first) (drop first table)) → bad i ≡ test (get_or (take (first + m - first) (drop first table)) i d)
-  each i h =
-      same i (omega (arith, long)) ∙ ap test (sym (get_or-take (first + m - first) (drop first table) i d (omega (arith, long)) ∙ get_or-drop first table i d))
-
-  pub part_found : (fault : Fault) → r ≡ true → ◌≡◌ {A = Result Unit Fault} (Err fault) (unless_found (first_where bad n) (λ _. fault) (Ok tt))
-  part_found fault h = any_found test _ d bad each n fault long (sym is ∙ h)
-
-  pub part_sound : (fault : Fault) → r ≡ false → ◌≡◌ {A = Result Unit Fault} (Ok tt) (unless_found (first_where bad n) (λ _. fault) (Ok tt))
-  part_sound fault h = none_found test _ d bad each n fault long (sym is ∙ h)
+    refused : (o : Option ℕ) → ◌≡◌ {A = Result Unit Fault} (unless_found (option_map (λ i. a + i) o) fault (Ok tt)) (unless_found o f (Ok tt))
+    refused None = refl
+    refused (Some i) = ap Err (sym (number i))

@@ -2,6 +2,7 @@ pub mod Sent
 pub mod Gathered
 pub mod Periods
 pub mod Firsts
+pub mod Passed
 pub mod Lookups
 pub mod Chains
 pub mod Stages

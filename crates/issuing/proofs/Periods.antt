@@ -1,5 +1,6 @@
 -- The lines and slots of a day, place by place and period by period.
-use Rattle.std.proofs.Common.{◌≡◌, subst, sym, ◌-◌, ℕ, zero, suc, ◌+◌, ◌*◌, ◌<◌, ◌≤◌, List, length, get_or, set, refl, ap, ◌∙◌, arith}
+use Rattle.std.proofs.Common.{◌≡◌, subst, sym, ◌-◌, ℕ, zero, suc, ◌+◌, ◌*◌, ◌<◌, ◌≤◌, List, length, get_or, set, Ok, Option, refl, ap, ◌∙◌, arith, w64, Fits}
+use Rattle.std.proofs.lemmas.Nat.{mul-le}
 use Rattle.domain.specs.Slots.{reading_slot, issued_slot}
 use Rattle.domain.specs.Checks.{slot_at, no_volume}
 use Rattle.domain.specs.Limits.{periods}
@@ -9,8 +10,10 @@ use Rattle.domain.specs.declared.Slot.{Slot}
 use Rattle.domain.specs.declared.terms.Terms.{Terms}
 use Rattle.rows.specs.Rows.{Tame}
 use Rattle.issuing.specs.Posted.{posted, filled}
+use Rattle.issuing.specs.Slots.{counted}
 use Rattle.issuing.specs.Days.{place_lines, period_lines, lines_before, lines_of, filled_before}
 use Rattle.issuing.proofs.Gathered.{length_gathered_more, gathered_most, gathered_same, filled_more, length-filled, get_or_filled_above, turn_count, turn_room, turn_end, turn_journal}
+use Rattle.issuing.proofs.Passed.{count_passed}
 use Rattle.issuing.proofs.Sent.{slot_most}
 
 module _ (t : Terms) (next : ℕ → ℕ → Slot) (day run : ℕ) where
@@ -104,6 +107,12 @@ module _ (t : Terms) (next : ℕ → ℕ → Slot) (day run : ℕ) (issued : Lis
   pub period_count : (n r : ℕ) → n ≡ length (lines_before t issued next day run (p - 1)) → r ≡ length (period_lines t issued next day run p t.places) → n + r ≡ length (lines_before t issued next day run (p + 1 - 1))
   period_count n r e h =
       turn_count lines (p - 1) n r e (h ∙ ap (λ (k : ℕ). length (period_lines t issued next day run k t.places)) again) ∙ ap (λ (k : ℕ). length (gathered lines k)) after
+
+  -- the count of a period added to those before it fits its type
+  pub period_fits : (n r : ℕ) (spoiled : Option ℕ) → n ≡ length (lines_before t issued next day run (p - 1)) → Ok r ≡ counted spoiled (period_lines t issued next day run p t.places) → p ≤ periods → Fits w64 (n + r)
+  period_fits n r spoiled e h high =
+      let b : (2 * t.places) * (p + 1 - 1) ≤ 16 * 48 = mul-le (2 * t.places) (p + 1 - 1) 16 48 (omega (arith, t.few)) (omega arith) in
+      omega (arith, period_count n r e (count_passed spoiled (period_lines t issued next day run p t.places) r h).1, day_most t next day run issued (p + 1 - 1))
 
   -- its lines are sent from `end` on, from a table that the periods before it have filled
   module _ (at end : ℕ) (u : List Slot) (ended : end ≡ at + length (lines_before t issued next day run (p - 1))) (came : u ≡ filled_before t.places next day (p - 1) issued) where

@@ -1,10 +1,10 @@
 -- The checks of an issue, stage by stage.
-use Rattle.std.proofs.Common.{◌≡◌, ℕ, ◌+◌, ◌-◌, ◌*◌, ◌<◌, ◌≤◌, Bool, not, leb, List, length, get_or, take, is_some, None, Ok, Err, Result, sym, ap, ◌∙◌, arith}
+use Rattle.std.proofs.Common.{◌≡◌, ℕ, ◌+◌, ◌-◌, ◌*◌, ◌<◌, ◌≤◌, Bool, not, leb, List, length, take, is_some, None, Ok, Err, Result, sym, ap, ◌∙◌, arith}
 use Rattle.std.proofs.lemmas.Bool.{le-leb, lt-leb, leb-true, ltb-true, eqb-true, not-true}
 use Rattle.std.proofs.lemmas.Nat.{mul-add-lt}
 use Rattle.domain.specs.Limits.{periods}
 use Rattle.domain.specs.Slots.{issued_slots}
-use Rattle.domain.specs.Checks.{unless, and_then, is_day, readings_fit, issued_fit, reading_at, slot_at, spoiled_reading, spoiled_slot, no_volume}
+use Rattle.domain.specs.Checks.{unless, and_then, is_day, readings_fit, issued_fit, reading_at, spoiled_reading, spoiled_slot}
 use Rattle.domain.specs.declared.AllocationRow.{AllocationRow}
 use Rattle.domain.specs.declared.Reading.{Reading}
 use Rattle.domain.specs.declared.Slot.{Slot}
@@ -14,38 +14,42 @@ use Rattle.domain.specs.declared.Fault.TheVariants.{ArgumentOutsideLimits, Anoth
 use Rattle.domain.specs.declared.terms.Terms.{Terms}
 use Rattle.history.specs.declared.Dated.{Dated}
 use Rattle.rules.specs.Meaning.{Meaning}
+use Rattle.issuing.specs.declared.Order.{Order}
 use Rattle.issuing.specs.declared.Standing.{Standing}
 use Rattle.issuing.specs.First.{first_where, unless_found}
 use Rattle.issuing.specs.InForce.{is_ended, spoiled_holder, spoiled_row}
 use Rattle.issuing.specs.Slots.{is_empty, slot_of_day}
 use Rattle.issuing.specs.Sheets.{bad_holder, bad_row, HolderSpoiled, RowSpoiled}
-use Rattle.issuing.specs.Issue.{is_run, supplier_on, row_on, lacks_holder, call_checked, in_force_checked, slots_checked, standing_checked, complete_checked, issue_checked}
+use Rattle.issuing.specs.Issue.{is_run, supplier_on, row_on, lacks_holder, call_checked, in_force_checked, standing_checked, issue_checked}
 use Rattle.issuing.specs.Granted.{Granted}
 use Rattle.issuing.proofs.Chains.{past_unless, stop_unless, past_found, stop_found, unless_ok, found_ok, unless_then, found_then}
 use Rattle.issuing.proofs.Firsts.{first_below}
+use Rattle.issuing.proofs.Passed.{day_slot}
 
--- what was looked up, in the table's words
-module _ (m : Meaning) (t : Terms) (k : Standing) (holders : List (Dated ℕ)) (rows : List (Dated AllocationRow)) (day : ℕ) (ended : Bool) (end : ended ≡ is_ended k.ended day) (hs : List (Dated ℕ)) (front : hs ≡ take k.holders holders) (room : k.holders ≤ length holders) where
-  bad_holder_lem : bad_holder t.places hs ended day ≡ first_where (λ q. spoiled_holder (supplier_on k holders day q)) t.places
-  bad_holder_lem =
-      ap (λ (u : List (Dated ℕ)). bad_holder t.places u ended day) front ∙ ap (λ (b : Bool). bad_holder t.places (take k.holders holders) b day) end
+-- what was looked up for an order, in the table's words
+module _ {R : Type 0} (m : Meaning) (o : Order R) (hs : List (Dated ℕ)) (front : hs ≡ take o.standing.holders o.holders.now) (room : o.standing.holders ≤ length o.holders.now) where
+  abbrev ended : Bool
+  ended = is_ended o.standing.ended o.day
 
-  pub holder_refused : (e : Fault) → HolderSpoiled t.places hs ended day e → Err e ≡ in_force_checked {A = Unit} m t k holders rows day (Ok tt)
+  abbrev checked : Result Unit Fault
+  checked = in_force_checked m o.terms o.standing o.holders.now o.rows.now o.day (Ok tt)
+
+  bad_holder_lem : bad_holder o.terms.places hs ended o.day ≡ first_where (λ q. spoiled_holder (supplier_on o.standing o.holders.now o.day q)) o.terms.places
+  bad_holder_lem = ap (λ (u : List (Dated ℕ)). bad_holder o.terms.places u ended o.day) front
+
+  pub holder_refused : (e : Fault) → HolderSpoiled o.terms.places hs ended o.day e → Err e ≡ checked
   holder_refused e h =
-      ap Err h.is ∙ sym (past_unless _ (leb k.holders (length holders)) (Spoiled Holders) (le-leb _ _ room) ∙ stop_found _ _ (Spoiled Holders) (ap is_some (sym bad_holder_lem) ∙ h.found))
+      ap Err h.is ∙ sym (past_unless _ (leb o.standing.holders (length o.holders.now)) (Spoiled Holders) (le-leb _ _ room) ∙ stop_found _ _ (Spoiled Holders) (ap is_some (sym bad_holder_lem) ∙ h.found))
 
-  pub rows_short : bad_holder t.places hs ended day ≡ None → length rows < k.rows → (e : Fault) → e ≡ Spoiled Rows → Err e ≡ in_force_checked {A = Unit} m t k holders rows day (Ok tt)
-  rows_short none short e is =
-      ap Err is ∙ sym (past_unless _ (leb k.holders (length holders)) (Spoiled Holders) (le-leb _ _ room) ∙ past_found _ _ (λ _. Spoiled Holders) (sym bad_holder_lem ∙ none) ∙ stop_unless _ (leb k.rows (length rows)) (Spoiled Rows) (lt-leb _ _ short))
+  module _ (none : bad_holder o.terms.places hs ended o.day ≡ None) where
+    pub rows_short : length o.rows.now < o.standing.rows → (e : Fault) → e ≡ Spoiled Rows → Err e ≡ checked
+    rows_short short e is =
+        ap Err is ∙ sym (past_unless _ (leb o.standing.holders (length o.holders.now)) (Spoiled Holders) (le-leb _ _ room) ∙ past_found _ _ (λ _. Spoiled Holders) (sym bad_holder_lem ∙ none) ∙ stop_unless _ (leb o.standing.rows (length o.rows.now)) (Spoiled Rows) (lt-leb _ _ short))
 
-  module _ (rs : List (Dated AllocationRow)) (behind : rs ≡ take k.rows rows) (space : k.rows ≤ length rows) where
-    bad_row_lem : bad_row m t rs ended day ≡ first_where (λ i. spoiled_row m t (row_on k rows day (i + 1))) periods
-    bad_row_lem =
-        ap (λ (u : List (Dated AllocationRow)). bad_row m t u ended day) behind ∙ ap (λ (b : Bool). bad_row m t (take k.rows rows) b day) end
-
-    pub row_refused : bad_holder t.places hs ended day ≡ None → (e : Fault) → RowSpoiled m t rs ended day e → Err e ≡ in_force_checked {A = Unit} m t k holders rows day (Ok tt)
-    row_refused none e h =
-        ap Err h.is ∙ sym (past_unless _ (leb k.holders (length holders)) (Spoiled Holders) (le-leb _ _ room) ∙ past_found _ _ (λ _. Spoiled Holders) (sym bad_holder_lem ∙ none) ∙ past_unless _ (leb k.rows (length rows)) (Spoiled Rows) (le-leb _ _ space) ∙ stop_found _ _ (Spoiled Rows) (ap is_some (sym bad_row_lem) ∙ h.found))
+    pub row_refused : (rs : List (Dated AllocationRow)) → rs ≡ take o.standing.rows o.rows.now → o.standing.rows ≤ length o.rows.now → (e : Fault) → RowSpoiled m o.terms rs ended o.day e → Err e ≡ checked
+    row_refused rs behind space e h =
+        let bad_row_lem : bad_row m o.terms rs ended o.day ≡ first_where (λ i. spoiled_row m o.terms (row_on o.standing o.rows.now o.day (i + 1))) periods = ap (λ (u : List (Dated AllocationRow)). bad_row m o.terms u ended o.day) behind in
+        ap Err h.is ∙ sym (past_unless _ (leb o.standing.holders (length o.holders.now)) (Spoiled Holders) (le-leb _ _ room) ∙ past_found _ _ (λ _. Spoiled Holders) (sym bad_holder_lem ∙ none) ∙ past_unless _ (leb o.standing.rows (length o.rows.now)) (Spoiled Rows) (le-leb _ _ space) ∙ stop_found _ _ (Spoiled Rows) (ap is_some (sym bad_row_lem) ∙ h.found))
 
 -- each stage before what comes behind it
 module _ {A : Type 0} (rest : Result A Fault) where
@@ -63,40 +67,10 @@ module _ {A : Type 0} (rest : Result A Fault) where
       ∙ ap (λ (x : Result A Fault). unless (leb k.holders (length holders)) (Spoiled Holders) x) (found_then rest (first_where (λ q. spoiled_holder (supplier_on k holders day q)) t.places) (λ _. Spoiled Holders) (unless (leb k.rows (length rows)) (Spoiled Rows) (unless_found (first_where (λ i. spoiled_row m t (row_on k rows day (i + 1))) periods) (λ _. Spoiled Rows) r)))
       ∙ unless_then rest (leb k.holders (length holders)) (Spoiled Holders) (unless_found (first_where (λ q. spoiled_holder (supplier_on k holders day q)) t.places) (λ _. Spoiled Holders) (unless (leb k.rows (length rows)) (Spoiled Rows) (unless_found (first_where (λ i. spoiled_row m t (row_on k rows day (i + 1))) periods) (λ _. Spoiled Rows) r)))
 
-  pub slots_then : (t : Terms) (readings : List Reading) (issued : List Slot) (day : ℕ) (r : Result Unit Fault) → slots_checked t readings issued day (and_then r (λ _. rest)) ≡ and_then (slots_checked t readings issued day r) (λ _. rest)
-  slots_then t readings issued day r =
-      ap (λ (x : Result A Fault). unless_found (first_where (λ i. spoiled_reading (reading_at readings day (i + 1))) periods) (λ _. Spoiled Readings) x) (found_then rest (first_where (λ i. spoiled_slot (slot_of_day t issued day i)) (issued_slots t.places 1)) (λ _. Spoiled Issued) r)
-      ∙ found_then rest (first_where (λ i. spoiled_reading (reading_at readings day (i + 1))) periods) (λ _. Spoiled Readings) (unless_found (first_where (λ i. spoiled_slot (slot_of_day t issued day i)) (issued_slots t.places 1)) (λ _. Spoiled Issued) r)
-
   pub standing_then : (k : Standing) (room day : ℕ) (r : Result Unit Fault) → standing_checked k room day (and_then r (λ _. rest)) ≡ and_then (standing_checked k room day r) (λ _. rest)
   standing_then k room day r =
       ap (λ (x : Result A Fault). unless (leb k.lines room) (Spoiled Journal) x) (unless_then rest (not k.closed) (DayClosed day) r)
       ∙ unless_then rest (leb k.lines room) (Spoiled Journal) (unless (not k.closed) (DayClosed day) r)
-
-  pub complete_then : (t : Terms) (k : Standing) (holders : List (Dated ℕ)) (readings : List Reading) (day : ℕ) (r : Result Unit Fault) → complete_checked t k holders readings day (and_then r (λ _. rest)) ≡ and_then (complete_checked t k holders readings day r) (λ _. rest)
-  complete_then t k holders readings day r =
-      ap (λ (x : Result A Fault). unless_found (first_where (λ i. is_empty (reading_at readings day (i + 1))) periods) (λ i. ReadingMissing (i + 1)) x) (found_then rest (first_where (lacks_holder k holders day) t.places) HolderMissing r)
-      ∙ found_then rest (first_where (λ i. is_empty (reading_at readings day (i + 1))) periods) (λ i. ReadingMissing (i + 1)) (unless_found (first_where (lacks_holder k holders day) t.places) HolderMissing r)
-
-  -- all of them
-  pub checked_then : (m : Meaning) (t : Terms) (k : Standing) (holders : List (Dated ℕ)) (rows : List (Dated AllocationRow)) (readings : List Reading) (issued : List Slot) (room day run : ℕ) → issue_checked m t k holders rows readings issued room day run rest ≡ and_then (issue_checked m t k holders rows readings {A = Unit} issued room day run (Ok tt)) (λ _. rest)
-  checked_then m t k holders rows readings issued room day run =
-      let e = complete_checked {A = Unit} t k holders readings day (Ok tt) in
-      let d = standing_checked {A = Unit} k room day e in
-      let c = slots_checked {A = Unit} t readings issued day d in
-      let b = in_force_checked {A = Unit} m t k holders rows day c in
-      ap (λ (x : Result A Fault). call_checked t readings issued day run (in_force_checked m t k holders rows day (slots_checked t readings issued day (standing_checked k room day x)))) (complete_then t k holders readings day (Ok tt))
-      ∙ ap (λ (x : Result A Fault). call_checked t readings issued day run (in_force_checked m t k holders rows day (slots_checked t readings issued day x))) (standing_then k room day e)
-      ∙ ap (λ (x : Result A Fault). call_checked t readings issued day run (in_force_checked m t k holders rows day x)) (slots_then t readings issued day d)
-      ∙ ap (λ (x : Result A Fault). call_checked t readings issued day run x) (force_then m t k holders rows day c)
-      ∙ call_then t readings issued day run b
-
--- the slot of a place in a period is one of the day's slots
-day_slot : (t : Terms) (issued : List Slot) (day p q : ℕ) → 1 ≤ p → slot_of_day t issued day ((p - 1) * t.places + q) ≡ slot_at t issued day p q
-day_slot t issued day p q h =
-    let n = t.places in
-    let e : (day * 48 + 0) * n + 0 + ((p - 1) * n + q) ≡ (day * 48 + (p - 1)) * n + q = omega arith in
-    ap (λ (i : ℕ). get_or issued i no_volume) e
 
 before : (p : ℕ) → 1 ≤ p → p - 1 + 1 ≡ p
 before p h = omega arith

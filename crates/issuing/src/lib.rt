@@ -1,13 +1,12 @@
 // Issuing a day: what is sent, and what the tables hold then.
 #![tactic(auto)]
 
-ghost use Rattle.std.specs.Prelude.{◌≡◌, ◌+◌, length, Ok, Err, MatchResult};
+ghost use Rattle.std.specs.Prelude.{◌≡◌, length, Ok};
 ghost use Rattle.domain.specs.Checks.{settled};
 ghost use Rattle.issuing.specs.Posted.{posted};
-ghost use Rattle.issuing.specs.Issue.{call_checked, standing_checked, issue_checked, issue_answer, issued_after, day_lines};
-ghost use Rattle.issuing.specs.Known.{Prepared};
+ghost use Rattle.issuing.specs.Issue.{call_checked, standing_checked, issue_answer, issued_after, day_lines};
 
-use checks::{complete_holders, complete_readings, sound_readings, sound_slots};
+use checks::complete_holders;
 use domain::{AllocationRow, Fault, Line, Reading, Run, Slot, Table, Terms, admit};
 use history::Dated;
 use plan::Plan;
@@ -21,7 +20,7 @@ mod posting;
 mod sheet;
 
 // What the book knows of itself when it issues a day.
-#[derive(Clone, Copy)]
+#[derive(Clone, Copy, PartialEq, Eq, Debug)]
 pub struct Standing {
     // entries held in the tables of holders and of rows, and lines sent to the journal
     pub holders: usize,
@@ -73,34 +72,26 @@ impl<R: Rule> Order<'_, R> {
         Ok(())
     }
 
-    // All checks of an issue that come before its lines are counted; what is in force on the day where they are passed.
-    fn prepare(self, issued: &[Slot], room: usize) -> Result<Sheet, Fault>
-        ensures { MatchResult result (Prepared (R.Rule.meaning self.entry.rule.now) self.entry.terms self.entry.standing self.entry.holders.now self.entry.rows.now self.entry.readings.now issued.now room self.entry.day self.entry.run) (λ e. Err e ≡ issue_checked (R.Rule.meaning self.entry.rule.now) self.entry.terms self.entry.standing self.entry.holders.now self.entry.rows.now self.entry.readings.now {A = Unit} issued.now room self.entry.day self.entry.run (Ok tt)) }
-    {
-        self.admit_call(issued)?;
-        let sheet = self.sheet()?;
-        sound_readings(self.readings, self.day)?;
-        sound_slots(self.terms, issued, self.day)?;
-        self.admit_day(room)?;
-        complete_readings(self.readings, self.day)?;
-        complete_holders(self.terms, &sheet.holders, self.is_ended())?;
-        Ok(sheet)
-    }
-
     // Issues the day: sends the lines that lead each slot of the day from what was issued to what it is to have, and says how many.
+    #[tactic(auto, using(crate::proofs::Refused::past5))]
     pub fn issue(self, issued: &mut [Slot], journal: &mut [Line]) -> Result<usize, Fault>
         ensures answer { result ≡ issue_answer (R.Rule.meaning self.entry.rule.now) self.entry.terms self.entry.standing self.entry.holders.now self.entry.rows.now self.entry.readings.now issued.old (length journal.old) self.entry.day self.entry.run }
         ensures issued { issued.new ≡ settled result (issued_after (R.Rule.meaning self.entry.rule.now) self.entry.terms self.entry.standing self.entry.holders.now self.entry.rows.now self.entry.readings.now issued.old self.entry.day) issued.old }
         ensures journal { journal.new ≡ settled result (posted journal.old self.entry.standing.lines (day_lines (R.Rule.meaning self.entry.rule.now) self.entry.terms self.entry.standing self.entry.holders.now self.entry.rows.now self.entry.readings.now issued.old self.entry.day self.entry.run)) journal.old }
     {
         let room = journal.len();
-        let sheet = self.prepare(issued, room)?;
+        self.admit_call(issued)?;
+        let sheet = self.sheet()?;
         let plan = Plan {
             order: self,
             sheet: &sheet,
         };
+        plan.sound_readings()?;
         // the lines are counted before any is sent, so that a refused issue writes nothing
-        let new = plan.count(issued);
+        let new = plan.count(issued)?;
+        self.admit_day(room)?;
+        plan.complete_readings()?;
+        complete_holders(self.terms, &sheet.holders, self.is_ended())?;
         let sent = self.standing.lines;
         if new > room - sent {
             return Err(Fault::JournalTooShort { needed: sent + new });

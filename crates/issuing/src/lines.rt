@@ -7,7 +7,7 @@ ghost use Rattle.issuing.specs.Posted.{posted, headed};
 use domain::{Line, Slot};
 
 // What the lines of one slot have in common.
-#[derive(Clone, Copy)]
+#[derive(Clone, Copy, PartialEq, Eq, Debug)]
 pub struct Heading {
     pub day: u16,
     pub run: u8,
@@ -31,13 +31,13 @@ impl Heading {
 }
 
 // Writes the line at `at`, unless it is of 0, and says where the next one goes.
+#[tactic(auto, using(crate::proofs::Sent::sent_none, crate::proofs::Sent::sent_one, crate::proofs::Gathered::posted_none, crate::proofs::Gathered::posted_one))]
 fn send(journal: &mut [Line], at: usize, line: Line) -> usize
     requires { at + length (sent line) ≤ length journal.old }
     ensures next { result ≡ at + length (sent line) }
     ensures journal { journal.new ≡ posted journal.old at (sent line) }
 {
-    let none = line.volume == 0;
-    if none {
+    if line.volume == 0 {
         return at;
     }
     journal[at] = line;
@@ -45,6 +45,7 @@ fn send(journal: &mut [Line], at: usize, line: Line) -> usize
 }
 
 // How many lines a volume takes: none for 0.
+#[tactic(auto, using(crate::proofs::Sent::count_sent))]
 fn count_line(volume: i32) -> usize
     ensures { (day run p q s : ℕ) → result ≡ length (sent (line_of day run p q s volume)) }
 {

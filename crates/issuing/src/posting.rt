@@ -1,19 +1,21 @@
 // Going through a day, period by period and place by place: how many lines it takes, and sending them.
 ghost use Rattle.std.specs.Prelude.{◌≡◌, ℕ, ◌+◌, ◌*◌, ◌<◌, ◌≤◌, length};
 ghost use Rattle.domain.specs.Limits.{periods};
-ghost use Rattle.domain.specs.Slots.{reading_slot};
+ghost use Rattle.domain.specs.Slots.{reading_slot, issued_slots};
 ghost use Rattle.domain.specs.Checks.{slot_at};
 ghost use Rattle.rows.specs.Rows.{Tame};
 ghost use Rattle.issuing.specs.Posted.{posted, filled};
 ghost use Rattle.issuing.specs.Days.{period_lines, lines_of, filled_before};
 ghost use Rattle.issuing.specs.Plans.{planned, Ready, ReadyIn};
+ghost use Rattle.issuing.specs.Slots.{spoiled_place, spoiled_before, counted};
 
 use super::lines::{Heading, count_slot, send_slot};
 use super::plan::Plan;
-use domain::{Line, PERIODS, Slot, issued_slot, reading_slot};
+use domain::{Fault, Line, PERIODS, Slot, Table, issued_slot, reading_slot};
 use rows::share;
 use rules::Rule;
 
+#[tactic(auto, using(domain::proofs::Within::issued_within, crate::proofs::Firsts::first_none, crate::proofs::Passed::place_more, crate::proofs::Passed::place_refused, crate::proofs::Passed::count_all, crate::proofs::Passed::day_start, crate::proofs::Passed::period_more, crate::proofs::Passed::period_refused, crate::proofs::Passed::count_passed, crate::proofs::Gathered::gathered_none, crate::proofs::Gathered::posted_none, crate::proofs::Gathered::filled_none, crate::proofs::Periods::days_none, crate::proofs::Periods::period_count, crate::proofs::Periods::count_step, crate::proofs::Periods::period_fits))]
 impl<R: Rule> Plan<'_, '_, R> {
     // The slot of a place in a Settlement Period as it is to be.
     fn next_slot(&self, period: u8, place: u8) -> Slot
@@ -30,18 +32,24 @@ impl<R: Rule> Plan<'_, '_, R> {
         Slot { supplier, volume }
     }
 
-    // How many lines a Settlement Period takes.
-    fn count_period(&self, issued: &[Slot], period: u8) -> usize
-        requires { ReadyIn self.now issued.now period }
-        ensures { result ≡ length (period_lines self.now.order.terms issued.now (planned (R.Rule.meaning self.now.order.rule.now) self.now) self.now.order.day self.now.order.run period self.now.order.terms.places) }
+    // How many lines a Settlement Period takes, refused where one of its slots is spoiled.
+    fn count_period(&self, issued: &[Slot], period: u8) -> Result<usize, Fault>
+        requires slots { length issued.now ≡ issued_slots self.now.order.terms.places self.now.order.terms.days }
+        requires period { (1 ≤ period) × (period ≤ periods) }
+        ensures { result ≡ counted (spoiled_place self.now.order.terms issued.now self.now.order.day period self.now.order.terms.places) (period_lines self.now.order.terms issued.now (planned (R.Rule.meaning self.now.order.rule.now) self.now) self.now.order.day self.now.order.run period self.now.order.terms.places) }
     {
         let mut needed = 0;
         // a slot is found, and a share asked for, by the number of a place
         for place in 0..self.order.terms.places {
             let was = issued[issued_slot(self.order.terms.places, self.order.day, period, place)];
+            if was.is_spoiled() {
+                return Err(Fault::Spoiled {
+                    table: Table::Issued,
+                });
+            }
             needed += count_slot(was, self.next_slot(period, place));
         }
-        needed
+        Ok(needed)
     }
 
     // Sends the lines of a Settlement Period from `at` on, and says where the line after them goes.
@@ -70,16 +78,17 @@ impl<R: Rule> Plan<'_, '_, R> {
         end
     }
 
-    // How many lines the day takes.
-    pub(crate) fn count(&self, issued: &[Slot]) -> usize
-        requires { Ready self.now issued.now }
-        ensures { result ≡ length (lines_of self.now.order.terms issued.now (planned (R.Rule.meaning self.now.order.rule.now) self.now) self.now.order.day self.now.order.run) }
+    // How many lines the day takes, refused where one of its slots is spoiled.
+    // The slots are gone through twice, here and to send, so that a refused issue writes nothing. One function over what is done with a slot would take a closure and a state, and be no plainer.
+    pub(crate) fn count(&self, issued: &[Slot]) -> Result<usize, Fault>
+        requires { length issued.now ≡ issued_slots self.now.order.terms.places self.now.order.terms.days }
+        ensures { result ≡ counted (spoiled_before self.now.order.terms issued.now self.now.order.day (issued_slots self.now.order.terms.places 1)) (lines_of self.now.order.terms issued.now (planned (R.Rule.meaning self.now.order.rule.now) self.now) self.now.order.day self.now.order.run) }
     {
         let mut needed = 0;
         for period in 1..=PERIODS {
-            needed += self.count_period(issued, period);
+            needed += self.count_period(issued, period)?;
         }
-        needed
+        Ok(needed)
     }
 
     // Sends the lines of the day from `at` on, and has each slot hold what it is to be.

@@ -1,12 +1,12 @@
 // Who and what is in force on a day that is issued.
 ghost use Rattle.std.specs.Prelude.{◌≡◌, Ok, Err, MatchResult};
-ghost use Rattle.issuing.specs.InForce.{is_ended, needs_holder, supplier_of, row_of, spoiled_row};
+ghost use Rattle.issuing.specs.InForce.{is_ended, needs_holder, supplier_of, spoiled_row};
 ghost use Rattle.issuing.specs.Issue.{in_force_checked};
 ghost use Rattle.issuing.specs.Known.{OnDay};
 ghost use Rattle.issuing.specs.Sheets.{Holding, Splitting, HolderSpoiled, RowSpoiled};
 
 use super::Order;
-use domain::{AllocationRow, Fault, MAX_PLACES, PERIODS, Table, Terms};
+use domain::{AllocationRow, Fault, MAX_PLACES, PERIODS, Table};
 use history::History;
 use rows::is_allowed;
 use rules::Rule;
@@ -17,7 +17,7 @@ pub const PLACES: usize = MAX_PLACES as usize;
 pub const HALF_HOURS: usize = PERIODS as usize;
 
 // What is in force on a day: the holder of each place, and the row of each Settlement Period.
-#[derive(Clone, Copy)]
+#[derive(Clone, Copy, PartialEq, Eq, Debug)]
 pub struct Sheet {
     // none for a place that needs no holder or has none
     pub holders: [Option<u16>; PLACES],
@@ -30,13 +30,6 @@ pub(crate) fn needs_holder(ended: bool, place: u8) -> bool
     ensures { result ≡ needs_holder ended place }
 {
     !ended || place == 0
-}
-
-fn is_spoiled_row<R: Rule>(rule: &R, terms: Terms, row: &Option<AllocationRow>) -> bool
-    ensures { result ≡ spoiled_row (R.Rule.meaning rule.now) terms row.now }
-{
-    row.as_ref()
-        .is_some_and(|row| !is_allowed(rule, terms, row))
 }
 
 impl<R: Rule> Order<'_, R> {
@@ -58,18 +51,8 @@ impl<R: Rule> Order<'_, R> {
         }
     }
 
-    // The row in force in a Settlement Period. Rows and holders end by different tests, so one function for both would be no plainer.
-    fn row_of(self, held: History<'_, AllocationRow>, period: u8) -> Option<AllocationRow>
-        ensures { result ≡ row_of held.entry.entries.now (is_ended self.entry.standing.ended self.entry.day) self.entry.day period }
-    {
-        if self.is_ended() {
-            None
-        } else {
-            held.entry_in_force(period, self.day)
-        }
-    }
-
     // The holder of each place, refused where one in force is spoiled: no supplier has the number 0.
+    #[tactic(auto, using(crate::proofs::Firsts::first_none, crate::proofs::Firsts::first_here, crate::proofs::Lookups::spoiled_zero))]
     fn holders_of(self, held: History<'_, u16>) -> Result<[Option<u16>; PLACES], Fault>
         ensures { MatchResult result (Holding self.entry.terms.places held.entry.entries.now (is_ended self.entry.standing.ended self.entry.day) self.entry.day) (HolderSpoiled self.entry.terms.places held.entry.entries.now (is_ended self.entry.standing.ended self.entry.day) self.entry.day) }
     {
@@ -87,6 +70,14 @@ impl<R: Rule> Order<'_, R> {
         Ok(holders)
     }
 
+    // Whether there is a row that the rule does not allow.
+    fn is_spoiled_row(self, row: &Option<AllocationRow>) -> bool
+        ensures { result ≡ spoiled_row (R.Rule.meaning self.entry.rule.now) self.entry.terms row.now }
+    {
+        row.as_ref()
+            .is_some_and(|row| !is_allowed(self.rule, self.terms, row))
+    }
+
     // The row of each Settlement Period, refused where one in force is spoiled.
     fn rows_of(
         self,
@@ -94,18 +85,19 @@ impl<R: Rule> Order<'_, R> {
     ) -> Result<[Option<AllocationRow>; HALF_HOURS], Fault>
         ensures { MatchResult result (Splitting (R.Rule.meaning self.entry.rule.now) self.entry.terms held.entry.entries.now (is_ended self.entry.standing.ended self.entry.day) self.entry.day) (RowSpoiled (R.Rule.meaning self.entry.rule.now) self.entry.terms held.entry.entries.now (is_ended self.entry.standing.ended self.entry.day) self.entry.day) }
     {
-        let mut rows = [None; HALF_HOURS];
-        for period in 1..=PERIODS {
-            let row = self.row_of(held, period);
-            if is_spoiled_row(self.rule, self.terms, &row) {
-                return Err(Fault::Spoiled { table: Table::Rows });
-            }
-            rows[usize::from(period) - 1] = row;
+        // from the end day on no row is read
+        if self.is_ended() {
+            return Ok([None; HALF_HOURS]);
+        }
+        let rows = held.entries_in_force(self.day);
+        if rows.iter().any(|row| self.is_spoiled_row(row)) {
+            return Err(Fault::Spoiled { table: Table::Rows });
         }
         Ok(rows)
     }
 
     // What is in force on the day, refused where a table has less than is held, or where something in force is spoiled.
+    #[tactic(auto, using(crate::proofs::Stages::holder_refused, crate::proofs::Stages::rows_short, crate::proofs::Stages::row_refused))]
     pub(crate) fn sheet(self) -> Result<Sheet, Fault>
         ensures { MatchResult result (OnDay (R.Rule.meaning self.entry.rule.now) self.entry.terms self.entry.standing self.entry.holders.now self.entry.rows.now self.entry.day) (λ e. Err e ≡ in_force_checked {A = Unit} (R.Rule.meaning self.entry.rule.now) self.entry.terms self.entry.standing self.entry.holders.now self.entry.rows.now self.entry.day (Ok tt)) }
     {

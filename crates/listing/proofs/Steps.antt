@@ -1,23 +1,19 @@
 -- A text and the lines that are still to be added to it.
 use Rattle.std.proofs.Common.{◌≡◌, ℕ, ◌+◌, List, [], ◌∷◌, ◌++◌, sym, ap, ◌∙◌, append_assoc}
-use Rattle.std.specs.List.{flat_map}
 use Rattle.std.proofs.lemmas.List.{append-nil}
 use Rattle.domain.specs.declared.AllocationRow.{AllocationRow}
 use Rattle.listing.specs.Texts.{row_text, rows_text}
 
--- where no line is left, the text is whole
-text_whole : (t rest b a h more : List ℕ) → t ++ rest ≡ b ++ more → rest ≡ [] → b ≡ a ++ h → t ≡ a ++ (h ++ more)
-text_whole t rest b a h more written none begun =
-    sym (append-nil t) ∙ ap (λ r. t ++ r) (sym none) ∙ written ∙ ap (λ b. b ++ more) begun ∙ append_assoc a h more
+-- behind a heading, which a number of the file is in, come the lines of the file's bytes
+pub headed : (heading : ℕ → List ℕ) (lines : List ℕ → List ℕ) (n m : ℕ) (bs cs t a : List ℕ) → t ≡ a ++ heading n → n ≡ m → bs ≡ cs → t ++ lines bs ≡ a ++ (heading m ++ lines cs)
+headed heading lines n m bs cs t a wrote number bytes =
+    ap (λ t. t ++ lines bs) wrote ∙ append_assoc a (heading n) (lines bs) ∙ ap (λ n. a ++ (heading n ++ lines bs)) number ∙ ap (λ bs. a ++ (heading m ++ lines bs)) bytes
 
-pub lines_whole : {X : Type 0} (f : X → List ℕ) (xs : List X) (t b a h more : List ℕ) → t ++ flat_map f xs ≡ b ++ more → xs ≡ [] → b ≡ a ++ h → t ≡ a ++ (h ++ more)
-lines_whole f xs t b a h more written none begun =
-    text_whole t (flat_map f xs) b a h more written (ap (flat_map f) none) begun
-
-pub rows_whole : (p : ℕ) (xs : List AllocationRow) (t b a h more : List ℕ) → t ++ rows_text p xs ≡ b ++ more → xs ≡ [] → b ≡ a ++ h → t ≡ a ++ (h ++ more)
+-- where no row is left, the text is whole
+pub rows_whole : (p : ℕ) (rows : List AllocationRow) (t whole : List ℕ) → t ++ rows_text p rows ≡ whole → rows ≡ [] → t ≡ whole
 unfolding rows_text
-rows_whole p xs t b a h more written none begun =
-    text_whole t (rows_text p xs) b a h more written (ap (rows_text p) none) begun
+rows_whole p rows t whole written none =
+    sym (append-nil t) ∙ ap (λ rows. t ++ rows_text p rows) (sym none) ∙ written
 
 -- one more row, and those that are left
 pub rows_more : (p : ℕ) (row : AllocationRow) (rows left : List AllocationRow) (t u whole : List ℕ) → t ++ rows_text p left ≡ whole → left ≡ row ∷ rows → u ≡ t ++ row_text p row → u ++ rows_text (p + 1) rows ≡ whole

@@ -62,23 +62,34 @@ words (HistoryFull needed) = codes "the history is too short for the entries nee
 abbrev pub refusal_text : Fault → List ℕ
 refusal_text fault = domain.refusal_text fault ++ (codes ": " ++ (words fault ++ codes "\n"))
 
+-- the lines before a schedule's rows: its count, sender, day and moment, and the columns
+abbrev pub schedule_heading : ℕ → ℕ → ℕ → ℕ → List ℕ
+schedule_heading count sender day moment =
+    codes "schedule: " ++ (decimal count ++ (codes " rows, sender " ++ (decimal sender ++ (codes ", day " ++ (decimal day ++ (codes ", moment " ++ (decimal moment ++ codes "\nperiod method balance n0 n1 n2 n3 n4 n5 n6 n7\n")))))))
+
+-- the lines before readings: their count, and the columns
+abbrev pub readings_heading : ℕ → List ℕ
+readings_heading count = codes "readings: " ++ (decimal count ++ codes " records\nday period quality kwh\n")
+
+-- the lines before those of a statement: their count, and the columns
+abbrev pub statement_heading : ℕ → List ℕ
+statement_heading count = codes "statement: " ++ (decimal count ++ codes " lines\nday period place supplier run volume\n")
+
 -- a schedule: its count, sender, day and moment, the columns, and its rows by period
 abbrev pub schedule_text : List ℕ → List ℕ → List ℕ
 schedule_text numbers records =
-    codes "schedule: " ++ (decimal (slice_index numbers 0) ++ (codes " rows, sender " ++ (decimal (slice_index numbers 1) ++ (codes ", day " ++ (decimal (slice_index numbers 2) ++ (codes ", moment " ++ (decimal (slice_index numbers 3) ++ codes "\nperiod method balance n0 n1 n2 n3 n4 n5 n6 n7\n")))))))
+    schedule_heading (slice_index numbers 0) (slice_index numbers 1) (slice_index numbers 2) (slice_index numbers 3)
     ++ rows_text 1 (records_in decoded_row row_size records)
 
 -- a readings file: its count, the columns, and its readings
 abbrev pub readings_text : List ℕ → List ℕ → List ℕ
 readings_text numbers records =
-    codes "readings: " ++ (decimal (slice_index numbers 0) ++ codes " records\nday period quality kwh\n")
-    ++ flat_map reading_text (records_in decoded_reading reading_size records)
+    readings_heading (slice_index numbers 0) ++ flat_map reading_text (records_in decoded_reading reading_size records)
 
 -- a statement: its count, the columns, and its lines
 abbrev pub statement_text : List ℕ → List ℕ → List ℕ
 statement_text numbers records =
-    codes "statement: " ++ (decimal (slice_index numbers 0) ++ codes " lines\nday period place supplier run volume\n")
-    ++ flat_map line_text (records_in decoded_line line_size records)
+    statement_heading (slice_index numbers 0) ++ flat_map line_text (records_in decoded_line line_size records)
 
 -- what a file says, by its kind
 abbrev pub told_text : Told → List ℕ

@@ -4,7 +4,7 @@
 
 ghost use Rattle.std.specs.Prelude.{◌≡◌, ◌++◌, Some, IfOk, string_bytes, OnOk};
 ghost use Rattle.files.specs.Reads.{told_schedule, told_readings, told_statement};
-ghost use Rattle.listing.specs.Texts.{row_text, words, refusal_text, told_text, listing_of};
+ghost use Rattle.listing.specs.Texts.{row_text, words, told_text, listing_of};
 
 use domain::{AllocationRow, Fault};
 use files::{File, Intro, MAX_FILE, ReadingsFile, ScheduleFile, StatementFile, read};
@@ -65,11 +65,11 @@ impl fmt::Display for PeriodRow {
     }
 }
 
-// Adds a schedule to the text. This and the functions below choose headings and records; a record, a row and a fault print by Display.
+// Adds a schedule to the text. This function and the two below are no `Display`: each is printed once, and a type for each would be made for one `write!`.
 fn put_schedule(text: &mut String, file: ScheduleFile<'_>) -> Result<(), AllocError>
     ensures { OnOk result (string_bytes text.new ≡ string_bytes text.old ++ told_text (told_schedule file.entry)) }
 {
-    let count = file.count;
+    let count = file.rows.len();
     let Intro {
         sender,
         day,
@@ -79,23 +79,20 @@ fn put_schedule(text: &mut String, file: ScheduleFile<'_>) -> Result<(), AllocEr
         text,
         "schedule: {count} rows, sender {sender}, day {day}, moment {moment}\nperiod method balance n0 n1 n2 n3 n4 n5 n6 n7\n"
     )?;
-    for (index, row) in file.rows.iter().enumerate() {
-        let line = PeriodRow {
-            period: index + 1,
-            row,
-        };
+    for (period, row) in (1..).zip(file.rows.iter()) {
+        let line = PeriodRow { period, row };
         write!(text, "{line}")?;
     }
     Ok(())
 }
 
-// Adds a readings file to the text.
+// Adds a readings file to the text. Its loop and that of a statement stay two: one function would take any iterator of what prints, and be no plainer.
 fn put_readings(text: &mut String, file: ReadingsFile<'_>) -> Result<(), AllocError>
     ensures { OnOk result (string_bytes text.new ≡ string_bytes text.old ++ told_text (told_readings file.entry)) }
 {
-    let count = file.count;
+    let count = file.len();
     write!(text, "readings: {count} records\nday period quality kwh\n")?;
-    for reading in file.records.iter() {
+    for reading in file.iter() {
         write!(text, "{reading}\n")?;
     }
     Ok(())
@@ -105,23 +102,15 @@ fn put_readings(text: &mut String, file: ReadingsFile<'_>) -> Result<(), AllocEr
 fn put_statement(text: &mut String, file: StatementFile<'_>) -> Result<(), AllocError>
     ensures { OnOk result (string_bytes text.new ≡ string_bytes text.old ++ told_text (told_statement file.entry)) }
 {
-    let count = file.count;
+    let count = file.len();
     write!(
         text,
         "statement: {count} lines\nday period place supplier run volume\n"
     )?;
-    for line in file.records.iter() {
+    for line in file.iter() {
         write!(text, "{line}\n")?;
     }
     Ok(())
-}
-
-// Adds a refusal to the text, with what it means.
-fn put_refusal(text: &mut String, fault: Fault) -> Result<(), AllocError>
-    ensures { OnOk result (string_bytes text.new ≡ string_bytes text.old ++ refusal_text fault) }
-{
-    let meaning = meaning(fault);
-    write!(text, "{fault}: {meaning}\n")
 }
 
 // The text that is printed of the bytes. It fails only for want of memory.
@@ -137,7 +126,7 @@ pub fn listing(heap: Global, input: &[u8]) -> Result<String, AllocError>
         Ok(File::Schedule(file)) => put_schedule(&mut text, file)?,
         Ok(File::Readings(file)) => put_readings(&mut text, file)?,
         Ok(File::Statement(file)) => put_statement(&mut text, file)?,
-        Err(fault) => put_refusal(&mut text, fault)?,
+        Err(fault) => write!(text, "{fault}: {}\n", meaning(fault))?,
     }
     Ok(text)
 }

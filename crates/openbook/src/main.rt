@@ -5,35 +5,17 @@ ghost use Rattle.std.specs.Prelude.{◌≡◌, IfOk};
 ghost use Rattle.files.specs.Contents.{notice_of};
 
 use book::Book;
-use domain::{AllocationRow, Fault, PERIODS, Reading, Slot, Terms};
+use domain::{AllocationRow, Fault, PERIODS, Quality, Reading, Slot, Terms};
 use history::Dated;
 use rules::House;
-use std::{fmt, io};
+use samples::SEVENTY;
+use std::io;
+use text::Hex;
 
 // The harbour has two places and three days.
 const PLACES: usize = 2;
 
 const HALF_HOURS: usize = 3 * PERIODS as usize;
-
-// 70% for the cold store, at place 0, and the rest for the boatyard, at place 1.
-const SEVENTY: AllocationRow = AllocationRow {
-    method: 1,
-    balance: 1,
-    nominations: [7_000, 0, 0, 0, 0, 0, 0, 0],
-};
-
-// Bytes as two hexadecimal digits each.
-#[derive(Clone, Copy)]
-struct Hex<'a>(&'a [u8]);
-
-impl fmt::Display for Hex<'_> {
-    fn fmt<W: fmt::Write>(&self, f: &mut fmt::Formatter<W>) -> fmt::Result {
-        for byte in self.0 {
-            write!(f, "{byte:02x}")?;
-        }
-        Ok(())
-    }
-}
 
 fn answered(rt: &impl Print, answer: Result<(), Fault>) -> io::Result<()> {
     match answer {
@@ -42,7 +24,7 @@ fn answered(rt: &impl Print, answer: Result<(), Fault>) -> io::Result<()> {
     }
 }
 
-// The book of the harbour, and its tables.
+// The book of the harbour, and its tables. A type shared with the season's desk and the benchmark's site would be no plainer: those have a journal, and vectors of sizes that are asked for, where these are fixed arrays with no heap; what they share is the list of fields.
 #[derive(Drop)]
 struct Harbour {
     book: Book<House>,
@@ -77,7 +59,7 @@ impl Harbour {
         )
     }
 
-    // Schedules the same row for all of day 2.
+    // Schedules the same row for all of day 2: 70% for the cold store, at place 0, and the rest for the boatyard, at place 1.
     fn schedule(&mut self, rt: &impl Print, sender: u16, moment: u32) -> io::Result<()> {
         print!(rt; "schedule by {sender} day 2 minute {moment}: ")?;
         match self.schedule_day(sender, 2, moment) {
@@ -102,7 +84,8 @@ impl Harbour {
     }
 
     // In period 13 of day 2.
-    fn reading(&mut self, rt: &impl Print, quality: u8, kwh: u32) -> io::Result<()> {
+    fn reading(&mut self, rt: &impl Print, quality: Quality, kwh: u32) -> io::Result<()> {
+        let quality = quality as u8;
         print!(rt; "reading day 2 period 13 quality {quality} kWh {kwh}: ")?;
         answered(
             rt,
@@ -136,8 +119,8 @@ fn run(rt: &impl Print, terms: Terms) -> io::Result<()> {
     harbour.schedule(rt, 101, 4_260)?;
     harbour.schedule(rt, 101, 4_261)?;
     harbour.schedule(rt, 102, 4_260)?;
-    harbour.reading(rt, 2, 30)?;
-    harbour.reading(rt, 1, 31)?;
+    harbour.reading(rt, Quality::Actual, 30)?;
+    harbour.reading(rt, Quality::Estimated, 31)?;
     harbour.volume(rt, 0)?;
     harbour.end(rt, 101, 4_260)?;
     harbour.schedule(rt, 101, 4_260)

@@ -1,2 +1,1 @@
-mod Peeled
-mod Room
+mod Ranged

@@ -1,2 +1,2 @@
 pub mod Layers
-pub mod Entered
+pub mod Fronts

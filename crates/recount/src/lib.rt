@@ -8,7 +8,7 @@ ghost use Rattle.rules.specs.Pairs.{is_pair, first_of, nearest};
 ghost use Rattle.rules.specs.Blocks.{modest, is_blocks, blocks};
 ghost use Rattle.rules.specs.House.{house};
 ghost use Rattle.recount.specs.Layers.{split, layers};
-ghost use Rattle.recount.specs.Entered.{entered, kind, Fronts};
+ghost use Rattle.recount.specs.Fronts.{kind, Fronts};
 ghost use Rattle.rules.specs.Housed.{house_laws};
 
 use domain::{MAX_KWH, is_period};
@@ -24,25 +24,42 @@ impl Rule for Recount {
     ghost laws = { λ x. house_laws };
 
     fn is_lawful(&self, row: Row) -> bool {
-        Entry::from(row).is_lawful()
+        by_method(row, Asked::ANY).is_some()
     }
 
+    #[tactic(auto, using(crate::proofs::Ranged::answered_out))]
     fn share(&self, row: Row, period: u8, energy: u32, place: usize) -> i64 {
-        Entry::from(row).share(period, energy, place)
+        if outside(period, energy) {
+            return 0;
+        }
+        let asked = Asked {
+            period,
+            energy,
+            place,
+        };
+        by_method(row, asked).unwrap_or(0)
     }
 }
 
-// What the parties agreed for one half hour.
-#[derive(Clone, Copy)]
-struct Entry<'a> {
-    method: u8,
-    capacity: u32,
-    nominations: &'a [u32],
-    balance: u8,
+// What is asked of a row: the kWh of a place in a Settlement Period with so much energy.
+#[derive(Clone, Copy, PartialEq, Eq, Debug)]
+struct Asked {
+    period: u8,
+    energy: u32,
+    place: usize,
+}
+
+impl Asked {
+    // Every lawful row answers it.
+    const ANY: Asked = Asked {
+        period: 1,
+        energy: 0,
+        place: 0,
+    };
 }
 
 // How what is left after the first blocks is split.
-#[derive(Clone, Copy)]
+#[derive(Clone, Copy, PartialEq, Eq, Debug)]
 enum Kind {
     Percentage,
     Capped,
@@ -57,150 +74,123 @@ fn outside(period: u8, energy: u32) -> bool
 }
 
 // A first block, and the row of the places after it.
-#[derive(Clone, Copy)]
+#[derive(Clone, Copy, PartialEq, Eq, Debug)]
 struct Front<'a> {
     block: u32,
-    below: Entry<'a>,
+    below: Row<'a>,
 }
 
-impl<'a> From<Row<'a>> for Entry<'a> {
-    ghost from_gives = { λ row entry. entered entry ≡ agreed row };
+// Each method is so many first blocks and a kind of split. Its number, as rows are stored with it, is read here alone.
+fn by_method(row: Row, asked: Asked) -> Option<i64>
+    ensures { result ≡ split house (agreed row.entry) asked.period asked.energy asked.place }
+{
+    let (blocks, inner) = match row.method {
+        1 => (0, Kind::Percentage),
+        2 => (0, Kind::Capped),
+        3 => (0, Kind::Fixed),
+        4 => (0, Kind::Multiple),
+        5 => (1, Kind::Percentage),
+        6 => (1, Kind::Multiple),
+        7 => (2, Kind::Percentage),
+        _ => return None,
+    };
+    peel(row, blocks, inner, asked)
+}
 
-    fn from(row: Row<'a>) -> Self {
-        Entry {
-            method: row.method,
-            capacity: row.capacity,
-            nominations: row.nominations,
-            balance: row.balance,
-        }
+// Takes so many first blocks off the front, and settles what is left.
+fn peel(row: Row, blocks: u8, inner: Kind, asked: Asked) -> Option<i64>
+    ensures { result ≡ split (layers blocks (kind inner)) (agreed row.entry) asked.period asked.energy asked.place }
+{
+    if blocks == 0 {
+        return settle(row, inner, asked);
+    }
+    let front = take_front(row)?;
+    let left = asked.energy.saturating_sub(front.block);
+    let below = Asked {
+        energy: left,
+        place: asked.place.saturating_sub(1),
+        ..asked
+    };
+    let share = peel(front.below, blocks - 1, inner, below)?;
+    if asked.place == 0 {
+        Some(i64::from(asked.energy - left))
+    } else {
+        Some(share)
     }
 }
 
-impl<'a> Entry<'a> {
-    fn is_lawful(self) -> bool
-        ensures { result ≡ house.lawful (entered self.entry) }
-    {
-        self.by_method(1, 0, 0).is_some()
+// The first block and the row below it.
+// The rules have steps like this one and those below in methods of `Row`: a second calculation takes nothing of theirs, or it would not find their fault.
+fn take_front(row: Row<'_>) -> Option<Front<'_>>
+    ensures { Fronts (agreed row.entry) result }
+{
+    let (first, rest) = row.nominations.split_first()?;
+    if rest.len() < 2 || row.balance == 0 || *first > MAX_KWH {
+        return None;
     }
+    let below = Row {
+        nominations: rest,
+        balance: row.balance - 1,
+        ..row
+    };
+    Some(Front {
+        block: *first,
+        below,
+    })
+}
 
-    fn share(self, period: u8, energy: u32, place: usize) -> i64
-        ensures { result ≡ answered house (entered self.entry) period energy place }
-    {
-        if outside(period, energy) {
-            return 0;
+// The kWh of a place with no first block.
+fn settle(row: Row, inner: Kind, asked: Asked) -> Option<i64>
+    ensures { result ≡ split (kind inner) (agreed row.entry) asked.period asked.energy asked.place }
+{
+    let energy = asked.energy;
+    match inner {
+        Kind::Percentage => {
+            let hundredths = first_of_two(row, WHOLE)?;
+            let first = nearest_share(hundredths, energy, asked.period);
+            Some(second_first(energy - first, energy, asked.place))
         }
-        self.by_method(period, energy, place).unwrap_or(0)
+        Kind::Capped => {
+            let block = first_of_two(row, MAX_KWH)?;
+            let second = energy.saturating_sub(block);
+            Some(second_first(second, energy, asked.place))
+        }
+        Kind::Fixed => run_down(row, 2, 2, energy, asked.place),
+        Kind::Multiple => run_down(row, 3, 8, energy, asked.place),
     }
+}
 
-    // Each method is so many first blocks and a kind of split.
-    fn by_method(self, period: u8, energy: u32, place: usize) -> Option<i64>
-        ensures { result ≡ split house (entered self.entry) period energy place }
-    {
-        let (blocks, inner) = match self.method {
-            1 => (0, Kind::Percentage),
-            2 => (0, Kind::Capped),
-            3 => (0, Kind::Fixed),
-            4 => (0, Kind::Multiple),
-            5 => (1, Kind::Percentage),
-            6 => (1, Kind::Multiple),
-            7 => (2, Kind::Percentage),
-            _ => return None,
-        };
-        self.peel(blocks, inner, period, energy, place)
+// The first nomination of two, if it is at most `most` and the second place balances and nominates nothing.
+fn first_of_two(row: Row, most: u32) -> Option<u32>
+    ensures { result ≡ (if is_pair most (agreed row.entry) then Some (first_of (agreed row.entry)) else None) }
+{
+    match row.nominations {
+        [first, last] if *last == 0 && row.balance == 1 && *first <= most => Some(*first),
+        _ => None,
     }
+}
 
-    // Takes so many first blocks off the front, and settles what is left.
-    fn peel(self, blocks: u8, inner: Kind, period: u8, energy: u32, place: usize) -> Option<i64>
-        ensures { result ≡ split (layers blocks (kind inner)) (entered self.entry) period energy place }
-    {
-        if blocks == 0 {
-            return self.settle(inner, period, energy, place);
-        }
-        let front = self.front()?;
-        let left = energy.saturating_sub(front.block);
-        let share = front
-            .below
-            .peel(blocks - 1, inner, period, left, place.saturating_sub(1))?;
-        if place == 0 {
-            Some(i64::from(energy - left))
-        } else {
-            Some(share)
-        }
+// The kWh of a place of fixed blocks, whatever the period: the balance place has the energy and what is left of the capacity, less all of the capacity.
+fn run_down(row: Row, least: usize, most: usize, energy: u32, place: usize) -> Option<i64>
+    ensures { result ≡ split (blocks least most) (agreed row.entry) 0 energy place }
+{
+    let left = left(row, least, most)?;
+    if place == usize::from(row.balance) {
+        return Some(i64::from(energy) + i64::from(left) - i64::from(row.capacity));
     }
+    let nomination = row.nominations.get(place).copied();
+    Some(i64::from(nomination.unwrap_or(0)))
+}
 
-    // The first block and the row below it.
-    fn front(self) -> Option<Front<'a>>
-        ensures { Fronts (entered self.entry) result }
-    {
-        let (first, rest) = self.nominations.split_first()?;
-        if rest.len() < 2 || self.balance == 0 || *first > MAX_KWH {
-            return None;
-        }
-        let below = Entry {
-            nominations: rest,
-            balance: self.balance - 1,
-            ..self
-        };
-        Some(Front {
-            block: *first,
-            below,
-        })
+// What the nominations of fixed blocks with from `least` to `most` places leave of the capacity.
+fn left(row: Row, least: usize, most: usize) -> Option<u32>
+    ensures { result ≡ (if is_blocks least most (agreed row.entry) then Some (row.entry.capacity - sum (agreed row.entry).nominations) else None) }
+{
+    let balance = row.nominations.get(usize::from(row.balance));
+    if !(least..=most).contains(&row.nominations.len()) || balance != Some(&0) {
+        return None;
     }
-
-    // The kWh of a place with no first block.
-    fn settle(self, inner: Kind, period: u8, energy: u32, place: usize) -> Option<i64>
-        ensures { result ≡ split (kind inner) (entered self.entry) period energy place }
-    {
-        match inner {
-            Kind::Percentage => {
-                let hundredths = self.first_of_two(WHOLE)?;
-                Some(second_first(
-                    energy - nearest_share(hundredths, energy, period),
-                    energy,
-                    place,
-                ))
-            }
-            Kind::Capped => {
-                let block = self.first_of_two(MAX_KWH)?;
-                Some(second_first(energy.saturating_sub(block), energy, place))
-            }
-            Kind::Fixed => self.run_down(2, 2, energy, place),
-            Kind::Multiple => self.run_down(3, 8, energy, place),
-        }
-    }
-
-    // The first nomination of two, if it is at most `most` and the second place balances and nominates nothing.
-    fn first_of_two(self, most: u32) -> Option<u32>
-        ensures { result ≡ (if is_pair most (entered self.entry) then Some (first_of (entered self.entry)) else None) }
-    {
-        match self.nominations {
-            [first, last] if *last == 0 && self.balance == 1 && *first <= most => Some(*first),
-            _ => None,
-        }
-    }
-
-    // The kWh of a place of fixed blocks: the balance place has the energy and what is left of the capacity, less all of the capacity.
-    fn run_down(self, least: usize, most: usize, energy: u32, place: usize) -> Option<i64>
-        ensures { result ≡ split (blocks least most) (entered self.entry) 0 energy place }
-    {
-        let left = self.left(least, most)?;
-        if place == usize::from(self.balance) {
-            return Some(i64::from(energy) + i64::from(left) - i64::from(self.capacity));
-        }
-        let nomination = self.nominations.get(place).copied();
-        Some(i64::from(nomination.unwrap_or(0)))
-    }
-
-    // What the nominations of fixed blocks with from `least` to `most` places leave of the capacity.
-    fn left(self, least: usize, most: usize) -> Option<u32>
-        ensures { result ≡ (if is_blocks least most (entered self.entry) then Some (self.entry.capacity - sum (entered self.entry).nominations) else None) }
-    {
-        let balance = self.nominations.get(usize::from(self.balance));
-        if !(least..=most).contains(&self.nominations.len()) || balance != Some(&0) {
-            return None;
-        }
-        capacity_left(self.capacity, self.nominations)
-    }
+    capacity_left(row.capacity, row.nominations)
 }
 
 // The capacity run down nomination by nomination, if it suffices and none is too large.
@@ -233,6 +223,7 @@ fn second_first(second: u32, energy: u32, place: usize) -> i64
 const WHOLE: u32 = 10_000;
 
 // The largest n with 20,000 n at most twice the product and 10,000, or 9,999 in an even period: found by halving the range that holds it.
+#[tactic(auto, using(crate::proofs::Ranged::part_le))]
 fn nearest_share(hundredths: u32, energy: u32, period: u8) -> u32
     requires { hundredths ≤ 10000 }
     ensures value { result ≡ nearest period (hundredths * energy) }

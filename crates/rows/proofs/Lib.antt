@@ -1,2 +1,1 @@
 pub mod Tamed
-pub mod Zeros

@@ -1,5 +1,5 @@
 -- The laws keep a rule's answers within what a meter can count.
-use Rattle.std.proofs.Common.{◌≡◌, ℕ, ◌<◌, ◌≤◌, ◌&&◌, List, length, get_or, ℤ, pos, negsuc, ⊎_elim, arith, w32, w64, SFits, to_z, of_z}
+use Rattle.std.proofs.Common.{ℕ, ◌<◌, ◌≤◌, ◌&&◌, List, length, get_or, ℤ, pos, ⊎_elim, arith}
 use Rattle.std.proofs.lemmas.List.{get_or_past}
 use Rattle.std.proofs.lemmas.Int.{ints}
 use Rattle.std.proofs.lemmas.Bool.{cases_lt, cond_both, and_parts}
@@ -25,11 +25,3 @@ tame_answered m laws t room p e i =
     (λ both. let parts = and_parts (m.lawful t) (in_range p e) both in
     tame_split t e (m.shares t p e) (laws t p e parts.0 parts.1) (grind (arith, nat_tests)) room i)
     (λ _. tame_none)
-
-pub tame_fits : (z : ℤ) → Tame z → SFits w32 z
-tame_fits (pos n) t = record { sfits = omega (arith, ints, t.high) }
-tame_fits (negsuc n) t = record { sfits = omega (arith, ints, t.low) }
-
--- narrowed from 64 bits
-pub fits_twice : (z : ℤ) → Tame z → SFits w32 (to_z w64 (of_z w64 z))
-fits_twice z t = let e : to_z w64 (of_z w64 z) ≡ z = omega (arith, ints) in rw e (tame_fits z t)

@@ -11,6 +11,7 @@ use domain::{AllocationRow, MAX_KWH, Terms};
 use rules::{Row, Rule};
 
 // Whether the rule allows the row in a book of these terms.
+// The rule, the terms and the row stand one by one here and in `share`: both are public calls that callers have, and a struct would be a second form of the same.
 pub fn is_allowed<R: Rule>(rule: &R, terms: Terms, row: &AllocationRow) -> bool
     ensures { result ≡ allowed (R.Rule.meaning rule.now) terms row.now }
 {

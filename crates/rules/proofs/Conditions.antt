@@ -25,7 +25,7 @@ module _ (most : ℕ) (part : Agreement → ℕ → ℕ → ℕ) (few : most ≤
 pairs_general : (most : ℕ) (part : Agreement → ℕ → ℕ → ℕ) → most ≤ most_kwh → AsksGeneral (pairs most part)
 pairs_general most part few t lawful = record { balances = grind (arith, nat_tests); leaves = grind (arith, nat_tests); each = pair_each most part few t lawful }
 
-blocks_general : (least most : ℕ) → AsksGeneral (blocks least most)
+pub blocks_general : (least most : ℕ) → AsksGeneral (blocks least most)
 blocks_general least most t lawful =
     let b = booked least most t lawful in
     record { balances = b.within; leaves = b.none; each = modest_each t.nominations b.modest }

@@ -1,1 +1,2 @@
 mod Conditions
+mod Means

@@ -6,6 +6,7 @@ pub mod First
 pub mod House
 pub mod Rounding
 pub mod General
+pub mod Means
 pub mod Worked
 pub mod Paired
 pub mod Shares

@@ -46,33 +46,32 @@ const PERCENTAGE_AFTER_TWO: FirstBlock<FirstBlock<Percentage>> = FirstBlock {
     below: PERCENTAGE_AFTER_ONE,
 };
 
+// What the rule of a method answers to a question. A macro, since no bound can be stated yet of a closure that takes a `&dyn Rule`.
+macro_rules! ask {
+    ($method:expr, $question:ident($($given:expr),+)) => {
+        match $method {
+            Method::Percentage => Percentage.$question($($given),+),
+            Method::CappedBlock => CappedBlock.$question($($given),+),
+            Method::FixedBlock => FixedBlock {}.$question($($given),+),
+            Method::MultipleBlock => MultipleBlock {}.$question($($given),+),
+            Method::PercentageAfterOne => PERCENTAGE_AFTER_ONE.$question($($given),+),
+            Method::MultipleAfterOne => MULTIPLE_AFTER_ONE.$question($($given),+),
+            Method::PercentageAfterTwo => PERCENTAGE_AFTER_TWO.$question($($given),+),
+        }
+    };
+}
+
 impl Rule for Method {
     ghost meaning = { λ m. method (number_of_method m) };
 
     ghost laws = { λ m. method_laws (number_of_method m) };
 
     fn is_lawful(&self, row: Row) -> bool {
-        match self {
-            Method::Percentage => Percentage.is_lawful(row),
-            Method::CappedBlock => CappedBlock.is_lawful(row),
-            Method::FixedBlock => FixedBlock {}.is_lawful(row),
-            Method::MultipleBlock => MultipleBlock {}.is_lawful(row),
-            Method::PercentageAfterOne => PERCENTAGE_AFTER_ONE.is_lawful(row),
-            Method::MultipleAfterOne => MULTIPLE_AFTER_ONE.is_lawful(row),
-            Method::PercentageAfterTwo => PERCENTAGE_AFTER_TWO.is_lawful(row),
-        }
+        ask!(self, is_lawful(row))
     }
 
     fn share(&self, row: Row, period: u8, energy: u32, place: usize) -> i64 {
-        match self {
-            Method::Percentage => Percentage.share(row, period, energy, place),
-            Method::CappedBlock => CappedBlock.share(row, period, energy, place),
-            Method::FixedBlock => FixedBlock {}.share(row, period, energy, place),
-            Method::MultipleBlock => MultipleBlock {}.share(row, period, energy, place),
-            Method::PercentageAfterOne => PERCENTAGE_AFTER_ONE.share(row, period, energy, place),
-            Method::MultipleAfterOne => MULTIPLE_AFTER_ONE.share(row, period, energy, place),
-            Method::PercentageAfterTwo => PERCENTAGE_AFTER_TWO.share(row, period, energy, place),
-        }
+        ask!(self, share(row, period, energy, place))
     }
 }
 
@@ -93,7 +92,7 @@ impl Rule for House {
     }
 
     fn share(&self, row: Row, period: u8, energy: u32, place: usize) -> i64 {
-        // Of all rules only this one reads the method.
+        // Of the rules of this crate only this one reads the method.
         match Method::try_from(row.method) {
             Ok(method) => method.share(row, period, energy, place),
             Err(_) => 0,

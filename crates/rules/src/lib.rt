@@ -10,6 +10,7 @@ ghost use Rattle.rules.specs.First.{opens, after_first, first_block};
 ghost use Rattle.rules.specs.House.{house};
 ghost use Rattle.rules.specs.Rounding.{RoundedTo};
 ghost use Rattle.rules.specs.General.{AsksGeneral};
+ghost use Rattle.rules.specs.Means.{BlocksMean};
 ghost use Rattle.rules.specs.Worked.{WorkedHalfHours};
 ghost use Rattle.rules.specs.Paired.{percentage_laws};
 ghost use Rattle.std.proofs.Common.{rules};
@@ -25,7 +26,7 @@ pub use house::House;
 // What the parties agreed for one half hour: one nomination for each place.
 #[derive(Clone, Copy, PartialEq, Eq, Debug)]
 pub struct Row<'a> {
-    // a number, as rows are stored with it: the house rule alone reads it, and it may be any under another rule
+    // a number, as rows are stored with it: the house rule reads it, as a second calculation of that rule does, and it may be any under another rule
     pub method: u8,
     // the Relevant Capacity, in kWh for one period
     pub capacity: u32,
@@ -264,8 +265,15 @@ impl<'a> Row<'a> {
 }
 
 // All seven methods ask that the balance place is one of the row's and nominates nothing, and that no nomination exceeds the limit.
+#[tactic(auto, using(crate::proofs::Conditions::house_general))]
 pub fn general_conditions()
     ensures { AsksGeneral house }
+{}
+
+// Methods 3 and 4 are fixed blocks of two places, and of three to eight.
+#[tactic(auto, using(crate::proofs::Means::blocks_mean))]
+pub fn block_methods()
+    ensures { (x : _) (y : _) → BlocksMean (⟦<FixedBlock as Rule>⟧.meaning x) (⟦<MultipleBlock as Rule>⟧.meaning y) }
 {}
 
 // The definitions give the half hours that were worked by hand.

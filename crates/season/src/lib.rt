@@ -11,6 +11,7 @@ ghost use Rattle.book.specs.Readings.{blank_answer};
 ghost use Rattle.season.specs.Outcomes.{outcome, state_in, start_in};
 ghost use Rattle.season.specs.Lent.{SameTables};
 ghost use Rattle.season.specs.Replays.{Replayed, calls_made};
+ghost use Rattle.season.specs.declared.Call.TheVariants as call;
 
 use book::Book;
 use domain::{AllocationRow, Fault, Line, Reading, Slot, Terms};
@@ -32,6 +33,7 @@ pub enum Accepted {
 pub type Outcome = Result<Accepted, Fault>;
 
 // A call of the book that changes something.
+// A refusal names an argument by its number in the call, so the arguments stand one by one.
 #[derive(Clone, Copy, PartialEq, Eq, Debug)]
 pub enum Call<'a> {
     Register {
@@ -102,7 +104,7 @@ pub fn replay<R: Rule + Drop>(
     book.blank(tables.readings, tables.issued)?;
     let count = calls.len().min(outcomes.len());
     let made = &calls[..count];
-    // an outcome is written by its index: of what a loop over `iter_mut` wrote, a proof knows only the length
+    // an outcome is written by its index: of what a loop over `iter_mut` with `zip` wrote, a proof knows only the length
     for (i, call) in made.iter().enumerate() {
         outcomes[i] = apply(&mut book, tables, call);
     }
@@ -117,25 +119,20 @@ pub fn apply<R: Rule>(book: &mut Book<R>, tables: &mut Tables<'_>, call: &Call<'
     ensures same { SameTerms book.old book.new }
     ensures lent { SameTables tables.old tables.new }
 {
-    let holders = &mut *tables.holders;
     match *call {
         Call::Register {
             place,
             day,
             supplier,
         } => book
-            .register(holders, place, day, supplier)
+            .register(tables.holders, place, day, supplier)
             .map(|()| Accepted::Done),
         Call::Schedule {
             sender,
             day,
             moment,
             rows,
-        } => book
-            .schedule(holders, tables.rows, sender, day, moment, rows)
-            .map(|receipt| Accepted::Scheduled {
-                notice: receipt.confirm(),
-            }),
+        } => schedule(book, tables, sender, day, moment, rows),
         Call::Reading {
             day,
             period,
@@ -148,15 +145,47 @@ pub fn apply<R: Rule>(book: &mut Book<R>, tables: &mut Tables<'_>, call: &Call<'
             sender,
             day,
             moment,
-        } => book
-            .end(holders, sender, day, moment)
-            .map(|()| Accepted::Done),
-        Call::Issue { day, run } => {
-            let rows = &mut *tables.rows;
-            let readings = &mut *tables.readings;
-            let issued = &mut *tables.issued;
-            book.issue(holders, rows, readings, issued, tables.journal, day, run)
-                .map(|lines| Accepted::Issued { lines })
+        } => {
+            let holders = &mut *tables.holders;
+            book.end(holders, sender, day, moment)
+                .map(|()| Accepted::Done)
         }
+        Call::Issue { day, run } => issue(book, tables, day, run),
     }
+}
+
+// Puts the rows of a day's schedule, and answers the notice that confirms them.
+fn schedule<R: Rule>(
+    book: &mut Book<R>,
+    tables: &mut Tables<'_>,
+    sender: u16,
+    day: u16,
+    moment: u32,
+    rows: &[AllocationRow],
+) -> Outcome
+    ensures answer { result ≡ outcome book.old.terms (R.Rule.meaning book.old.rule) (state_in (kept book.old) tables.old) (call.Schedule sender day moment rows.entry) }
+    ensures after { state_in (kept book.new) tables.new ≡ step book.old.terms (R.Rule.meaning book.old.rule) (state_in (kept book.old) tables.old) (call.Schedule sender day moment rows.entry) }
+    ensures same { SameTerms book.old book.new }
+    ensures lent { SameTables tables.old tables.new }
+{
+    let holders = &mut *tables.holders;
+    book.schedule(holders, tables.rows, sender, day, moment, rows)
+        .map(|receipt| Accepted::Scheduled {
+            notice: receipt.confirm(),
+        })
+}
+
+// Issues a day, and answers how many lines it sent.
+fn issue<R: Rule>(book: &mut Book<R>, tables: &mut Tables<'_>, day: u16, run: u8) -> Outcome
+    ensures answer { result ≡ outcome book.old.terms (R.Rule.meaning book.old.rule) (state_in (kept book.old) tables.old) (call.Issue day run) }
+    ensures after { state_in (kept book.new) tables.new ≡ step book.old.terms (R.Rule.meaning book.old.rule) (state_in (kept book.old) tables.old) (call.Issue day run) }
+    ensures same { SameTerms book.old book.new }
+    ensures lent { SameTables tables.old tables.new }
+{
+    let holders = &mut *tables.holders;
+    let rows = &mut *tables.rows;
+    let readings = &mut *tables.readings;
+    let issued = &mut *tables.issued;
+    book.issue(holders, rows, readings, issued, tables.journal, day, run)
+        .map(|lines| Accepted::Issued { lines })
 }

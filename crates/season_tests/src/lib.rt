@@ -7,17 +7,11 @@ mod tests {
     use history::Dated;
     use own_rule::Halves;
     use rules::{House, Rule};
+    use samples::SEVENTY;
     use season::{Accepted, Call, Tables, replay};
     use std::alloc::{AllocError, Global};
     use std::process::Abort;
     use std::test::Fail;
-
-    // Seventy percent of each half hour is the first place's, and the second balances.
-    const SEVENTY: AllocationRow = AllocationRow {
-        method: 1,
-        balance: 1,
-        nominations: [7_000, 0, 0, 0, 0, 0, 0, 0],
-    };
 
     const ISSUE: Call<'static> = Call::Issue {
         day: 0,

@@ -13,7 +13,7 @@ use Rattle.seasonlines.specs.declared.Slip.{Slip}
 use Rattle.seasonlines.specs.declared.Slip.TheVariants.{UnknownWord, Word, RowPeriods}
 use Rattle.seasonlines.specs.declared.verbs.Verb.{Verb}
 use Rattle.seasonlines.specs.declared.verbs.Verb.TheVariants as verb
-use Rattle.seasonlines.specs.Lists.{numbers_in, padded}
+use Rattle.seasonlines.specs.Lists.{numbers_in, padded, figures_of}
 use Rattle.seasonlines.specs.Tuples.{two, three, four}
 use Rattle.seasonlines.specs.Verbs.{verb_of, faulty_of}
 
@@ -35,7 +35,7 @@ row_in ws =
 -- DAY QUALITY KWH …, with at least one figure
 abbrev pub readings_in : List (List ℕ) → Result Entry Slip
 readings_in ws =
-    then_say (number_in 2 most16 ws) (λ day. then_say (number_in 3 most8 (drop 1 ws)) (λ quality. then_say (numbers_in 4 periods [] (drop 2 ws)) (λ ns. cond (length ns == 0) (Err (Word (Missing 4))) (Ok (Ask (Readings day quality (record { items = ns })))))))
+    then_say (number_in 2 most16 ws) (λ day. then_say (number_in 3 most8 (drop 1 ws)) (λ quality. then_say (numbers_in 4 periods [] (drop 2 ws)) (λ ns. cond (length ns == 0) (Err (Word (Missing 4))) (Ok (Ask (Readings day quality (figures_of ns)))))))
 
 -- what the words after the first one say, by what the line is: each call has its numbers, and no word after them
 abbrev pub said_by : Verb → List (List ℕ) → Result Entry Slip

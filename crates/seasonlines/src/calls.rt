@@ -5,7 +5,7 @@ ghost use Rattle.seasonlines.specs.Entries.{said_by};
 ghost use Rattle.seasonlines.specs.declared.verbs.Verb.TheVariants as verb;
 
 use crate::numbers::{four, list, padded, three, two};
-use crate::{Entry, MAX_FIGURES, Request, Slip};
+use crate::{Entry, Figures, MAX_FIGURES, Request, Slip};
 use arrayvec::ArrayVec;
 use domain::{AllocationRow, NOMINATIONS, PERIODS};
 use text::{WordFault, Words};
@@ -99,7 +99,7 @@ pub(crate) fn readings(mut words: Words<'_>) -> Result<Entry, Slip>
     Ok(Entry::Ask(Request::Readings {
         day,
         quality,
-        figures,
+        figures: Figures::of(&figures),
     }))
 }
 

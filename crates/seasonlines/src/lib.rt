@@ -8,22 +8,23 @@ ghost use Rattle.seasonlines.specs.declared.Slip.TheVariants.{Word};
 ghost use Rattle.seasonlines.specs.Slips.{slip_text};
 ghost use Rattle.seasonlines.specs.Entries.{entry_of, said_of};
 
-use arrayvec::ArrayVec;
 use domain::AllocationRow;
 use std::fmt;
 use text::{WordFault, Words, before_comment};
 
 mod calls;
+mod figures;
 mod numbers;
 mod verbs;
 
+pub use figures::Figures;
 use verbs::Verb;
 
 // The figures that a line of readings may have: one for each Settlement Period of a day.
 pub const MAX_FIGURES: usize = 48;
 
 // What a line of a season says.
-#[derive(Drop)]
+#[derive(Clone, Copy, Debug, PartialEq, Eq)]
 pub enum Entry {
     Terms {
         places: u8,
@@ -49,8 +50,8 @@ pub enum Entry {
     Ask(Request),
 }
 
-// A call of the book, or a question to it.
-#[derive(Drop)]
+// A call of the book, or a question to it. Four are calls of the crate season too: this crate stands below the book, and knows only text.
+#[derive(Clone, Copy, Debug, PartialEq, Eq)]
 pub enum Request {
     Register {
         place: u8,
@@ -67,7 +68,7 @@ pub enum Request {
     Readings {
         day: u16,
         quality: u8,
-        figures: ArrayVec<u32, MAX_FIGURES>,
+        figures: Figures,
     },
     End {
         sender: u16,
@@ -135,6 +136,7 @@ impl From<WordFault> for Slip {
 }
 
 // What a line says, unless it has no words. Its words are judged from left to right, and the first fault is told.
+#[tactic(auto, unfolding(crate::specs::Entries::entry_of))]
 pub fn read_line(line: &[u8]) -> Result<Option<Entry>, Faulty>
     ensures { result ≡ entry_of (words_of (uncommented line.now)) }
 {

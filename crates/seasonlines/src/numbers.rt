@@ -44,7 +44,7 @@ pub(crate) fn four<A: Number, B: Number, C: Number, D: Number>(
     Ok(numbers)
 }
 
-// The numbers in the words that are left, of which the first is the line's word `first`.
+// The numbers in the words that are left, of which the first is the line's word `first`. The crate entries has a list of its own, which grows on the heap and can run out of memory; this one is fixed memory.
 pub(crate) fn list<const N: usize>(
     words: Words<'_>,
     first: u8,

@@ -7,7 +7,7 @@ ghost use Rattle.seasonlines.specs.Entries.{said_by};
 use crate::{Entry, Faulty, Slip, calls};
 use text::Words;
 
-#[derive(Clone, Copy)]
+#[derive(Clone, Copy, Debug, PartialEq, Eq)]
 pub(crate) enum Verb {
     Terms,
     Tables,

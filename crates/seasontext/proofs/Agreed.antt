@@ -13,6 +13,7 @@ use Rattle.domain.specs.declared.Fault.TheVariants.{AnotherSize}
 use Rattle.domain.specs.declared.Table.TheVariants.{Readings, Issued}
 use Rattle.domain.specs.declared.Line.{Line}
 use Rattle.domain.specs.declared.terms.Terms.{Terms}
+use Rattle.files.specs.declared.records.Intro.{Intro}
 use Rattle.history.specs.declared.Dated.{Dated}
 use Rattle.rules.specs.House.{house}
 use Rattle.book.specs.Kept.{opened}
@@ -26,6 +27,7 @@ use Rattle.season.specs.Outcomes.{issued_by, state_of}
 use Rattle.season.proofs.Agrees.{Agrees}
 use Rattle.season.proofs.Replaying.{agrees_start}
 use Rattle.season.proofs.Runs.{law_start, sound_start}
+use Rattle.seasonlines.specs.Lists.{figures_in}
 use Rattle.seasonlines.specs.declared.Entry.{Entry}
 use Rattle.seasonlines.specs.declared.Entry.TheVariants as entry
 use Rattle.seasonlines.specs.declared.Request.{Request}
@@ -161,11 +163,11 @@ good_closed : (draft : Option Draft) (s : Run) → Good s → Good (closed_by dr
 unfolding closed_by
 good_closed None s h = h
 good_closed (Some d) s h =
-    good_called _ (with_draft None s) (either (λ a b. plain_step s.terms house b (call.Schedule d.sender d.day d.moment (lent d.rows)) a) (λ b. refl) (λ b. refl)) (good_draft None s h)
+    good_called _ (with_draft None s) (either (λ a b. plain_step s.terms house b (call.Schedule d.intro.sender d.intro.day d.intro.moment (lent d.rows)) a) (λ b. refl) (λ b. refl)) (good_draft None s h)
 
-good_drafted : (sender day moment : ℕ) (s : Run) → Good s → Good (drafted sender day moment s)
+good_drafted : (intro : Intro) (s : Run) → Good s → Good (drafted intro s)
 unfolding drafted
-good_drafted sender day moment s h = good_draft _ s h
+good_drafted intro s h = good_draft _ s h
 
 good_row : (number : ℕ) (draft : Option Draft) (from to : ℕ) (row : AllocationRow) (s : Run) → Good s → Good (row_put number draft from to row s)
 unfolding row_put
@@ -196,7 +198,7 @@ good_tables_put number holders rows journal s h = good_tables number holders row
 good_asked : (r : Request) (s : Run) → Good s → Good (asked r s)
 good_asked (request.Register place day supplier) s h = good_register place day supplier s h
 good_asked (request.Reading day period quality kwh) s h = good_reading day period quality kwh s h
-good_asked (request.Readings day quality figures) s h = good_read_all day quality figures.items (length figures.items) s h
+good_asked (request.Readings day quality figures) s h = good_read_all day quality (figures_in figures) (length (figures_in figures)) s h
 good_asked (request.End sender day moment) s h = good_end sender day moment s h
 good_asked (request.Issue day run) s h = good_issued day run s h
 good_asked (request.Volume day period place) s h = good_volume day period place s h
@@ -207,7 +209,7 @@ good_entered : (number : ℕ) (e : Result (Option Entry) Faulty) (s : Run) → G
 good_entered number (Ok None) s h = h
 good_entered number (Ok (Some (entry.Terms places days capacity))) s h = good_slipped number _ s h
 good_entered number (Ok (Some (entry.Tables holders rows journal))) s h = good_tables_put number holders rows journal s h
-good_entered number (Ok (Some (entry.Schedule sender day moment))) s h = good_drafted sender day moment s h
+good_entered number (Ok (Some (entry.Schedule sender day moment))) s h = good_drafted _ s h
 good_entered number (Ok (Some (entry.Row from to row))) s h = good_row number s.draft from to row s h
 good_entered number (Ok (Some (entry.Ask r))) s h = good_asked r s h
 good_entered number (Err (faulty.Row slip)) s h = good_faulty number s.draft slip s h

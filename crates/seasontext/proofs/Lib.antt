@@ -1,11 +1,9 @@
-pub mod Hexes
 pub mod Desks
 pub mod Evens
 pub mod Agreed
 pub mod Loops
 pub mod Statements
 pub mod Totals
-pub mod Seasons
 pub mod Starts
 pub mod Suppliers
 pub mod Numbered

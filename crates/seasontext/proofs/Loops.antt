@@ -13,17 +13,9 @@ use Rattle.domain.specs.declared.Reading.{Reading}
 use Rattle.season.specs.declared.Call.TheVariants as call
 use Rattle.seasontext.specs.Runs.{Run, copied, rows_with, read_all, called}
 
-pub copied_none : (readings : List Reading) (first : ℕ) (split : List (Option ℕ)) → copied readings first 0 split ≡ split
-unfolding copied
-copied_none readings first split = refl
-
 copied_more : (readings : List Reading) (first n : ℕ) (split : List (Option ℕ)) → copied readings first (n + 1) split ≡ set (copied readings first n split) (first + n) (Some (get_or readings (first + n) no_reading).kwh)
 unfolding copied
 copied_more readings first n split = rw add-one refl
-
-pub read_none : (day quality : ℕ) (figures : List ℕ) (s : Run) → read_all day quality figures 0 s ≡ s
-unfolding read_all
-read_none day quality figures s = refl
 
 pub read_more : (day quality : ℕ) (figures : List ℕ) (n : ℕ) (s : Run) → read_all day quality figures (n + 1) s ≡ called (call.Reading day (n + 1) quality (get_or figures n 0)) (read_all day quality figures n s)
 unfolding read_all

@@ -1,7 +1,6 @@
 -- The numbers of an input's lines.
-use Rattle.std.proofs.Common.{◌≡◌, ℕ, ◌+◌, ◌-◌, ◌≤◌, Bool, true, false, cond, eqb, List, [], ◌∷◌, ◌++◌, length, arith, length-append}
+use Rattle.std.proofs.Common.{ℕ, ◌+◌, ◌≤◌, Bool, true, false, cond, eqb, List, [], ◌∷◌, ◌++◌, length, arith, length-append}
 use Rattle.text.specs.Words.{ended, lines_after, lines_of}
-use Rattle.seasontext.specs.Openings.{HasNumbers}
 
 ended_few : (l : List ℕ) → length (ended l) ≤ length l
 ended_few [] = omega arith
@@ -21,11 +20,3 @@ lines_few l (c ∷ cs) =
 -- an input has no more lines than bytes
 pub few_lines : (cs : List ℕ) → length (lines_of cs) ≤ length cs
 few_lines cs = let h = lines_few [] cs in omega arith
-
-nothing : {A : Type 0} (xs : List A) → length xs ≡ 0 → xs ≡ []
-nothing [] e = cc
-nothing (x ∷ xs) e = absurd (omega arith)
-
--- the numbers do not end before the lines
-pub none_left : (number : ℕ) (lines : List (List ℕ)) → HasNumbers number lines → 18446744073709551615 - number ≡ 0 → lines ≡ []
-none_left number lines room e = nothing lines (omega arith)

@@ -1,5 +1,5 @@
 -- A desk as it is opened.
-use Rattle.std.proofs.Common.{◌≡◌, ℕ, Bool, false, List, replicate, Some, None, Option, refl, ap, ◌∙◌}
+use Rattle.std.proofs.Common.{◌≡◌, ℕ, Bool, false, List, replicate, None, Option, ap, ◌∙◌}
 use Rattle.domain.specs.Checks.{no_reading, no_volume}
 use Rattle.domain.specs.Slots.{reading_slots, issued_slots}
 use Rattle.domain.specs.declared.AllocationRow.{AllocationRow}
@@ -13,14 +13,6 @@ use Rattle.season.specs.Outcomes.{state_of}
 use Rattle.seasontext.specs.Blanks.{no_holder, no_dated_row, no_line}
 use Rattle.seasontext.specs.Runs.{run_of}
 use Rattle.seasontext.specs.Seasons.{start_of}
-
--- what is like none is none
-none_by : (y : Option ℕ) (Like : Option ℕ → Type 0) → ((x : ℕ) → Like (Some x) → ⊥) → Like y → y ≡ None
-none_by None Like apart e = refl
-none_by (Some x) Like apart e = absurd (apart x e)
-
-pub none_like : {Like : Option ℕ → Type 0} {P : Type 0} → (((y : Option ℕ) → Like y → y ≡ None) → P) → ((x : ℕ) → Like (Some x) → ⊥) → P
-none_like {Like = Like} fact apart = fact (λ y e. none_by y Like apart e)
 
 pub start_is : (holders journal slots many : ℕ) (t t' : Terms) (k : Kept) (quiet : Bool) (h : List (Dated ℕ)) (r : List (Dated AllocationRow)) (g : List Reading) (i : List Slot) (j : List Line) (sp : List (Option ℕ)) (text : List ℕ) → t' ≡ t → k ≡ opened → slots ≡ reading_slots t.days → many ≡ issued_slots t.places t.days → h ≡ replicate holders no_holder → r ≡ replicate slots no_dated_row → g ≡ replicate slots no_reading → i ≡ replicate many no_volume → j ≡ replicate journal no_line → sp ≡ replicate slots None → run_of t' quiet (state_of k h r g i j) sp 0 false None text ≡ start_of holders journal t quiet text
 unfolding start_of

@@ -1,5 +1,5 @@
 -- The file of a statement has as many bytes as its answer says.
-use Rattle.std.proofs.Common.{◌≡◌, ℕ, ◌+◌, ◌-◌, ◌*◌, ◌≤◌, Bool, true, false, ◌&&◌, leb, List, [], ◌∷◌, length, take, drop, is_ok, Ok, Err, Option, Result, refl, ap, ◌∙◌, arith, length-drop, leb-true}
+use Rattle.std.proofs.Common.{◌≡◌, ℕ, ◌+◌, ◌-◌, ◌*◌, ◌≤◌, Bool, true, false, ◌&&◌, leb, List, [], ◌∷◌, length, take, drop, is_ok, Ok, Err, Result, refl, ap, ◌∙◌, arith, length-drop, leb-true}
 use Rattle.std.specs.List.{flat_map}
 use Rattle.std.proofs.lemmas.List.{length-take-le}
 use Rattle.domain.specs.Checks.{unless}
@@ -12,9 +12,8 @@ use Rattle.files.specs.Records.{encoded_line}
 use Rattle.files.proofs.Buffers.{take-over}
 use Rattle.book.specs.Kept.{Kept}
 use Rattle.book.specs.Statements.{lines_from, statement_answer}
-use Rattle.book.specs.Volumes.{volume_answer}
-use Rattle.seasontext.specs.Runs.{Run, answered, volume_asked, statement_asked}
-use Rattle.seasontext.specs.Texts.{bytes_text, buffer_text, statement_text, volume_text}
+use Rattle.seasontext.specs.Runs.{Run, answered, statement_asked}
+use Rattle.seasontext.specs.Texts.{bytes_text, buffer_text, statement_text}
 
 lines_long : (ls : List Line) → length (flat_map encoded_line ls) ≡ length ls * 11
 lines_long [] = refl
@@ -58,10 +57,6 @@ pub statement_is : (first count : ℕ) (s : Run) (answer : Result ℕ Fault) →
 unfolding statement_asked
 statement_is first count s answer e =
     ap (λ a. answered (is_ok a) (statement_text (s.calls + 1) (file_of (of_statement (lines_from s.state.journal first count))) a) s) e
-
-pub volume_is : (day period place : ℕ) (s : Run) (answer : Result (Option (ℕ × ℕ)) Fault) → answer ≡ volume_answer s.terms s.state.issued day period place → answered (is_ok answer) (volume_text (s.calls + 1) answer) s ≡ volume_asked day period place s
-unfolding volume_asked
-volume_is day period place s answer e = ap (λ a. answered (is_ok a) (volume_text (s.calls + 1) a) s) e
 
 -- a statement, from what its parts did
 pub statement_told : (first count room : ℕ) (s s' : Run) (answer : Result ℕ Fault) (journal : List Line) (out old : List ℕ) → journal ≡ s.state.journal → room ≡ most_bytes → answer ≡ statement_answer s.state.kept (length journal) first count room → out ≡ settled answer (file_of (of_statement (lines_from journal first count))) old → s' ≡ answered (is_ok answer) (buffer_text (s.calls + 1) out answer) s → s' ≡ statement_asked first count s

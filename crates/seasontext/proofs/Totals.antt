@@ -1,5 +1,5 @@
 -- The sums and rows of the two tables.
-use Rattle.std.proofs.Common.{◌≡◌, ℕ, ◌+◌, ◌-◌, ◌<◌, ◌≤◌, Bool, true, false, cond, List, [], ◌∷◌, ◌++◌, length, get_or, take, ℤ, pos, ◌+ℤ◌, sym, refl, ap, ◌∙◌, append_assoc, append-nil, arith}
+use Rattle.std.proofs.Common.{◌≡◌, ℕ, ◌+◌, ◌-◌, ◌<◌, ◌≤◌, Bool, true, false, cond, List, [], ◌∷◌, ◌++◌, length, get_or, take, ℤ, pos, ◌+ℤ◌, sym, ap, ◌∙◌, append_assoc, append-nil, arith}
 use Rattle.domain.specs.Lines.{gathered}
 use lib.IntN.{+ℤ_idr}
 use Rattle.std.proofs.lemmas.List.{take_more}
@@ -7,10 +7,6 @@ use Rattle.domain.specs.declared.Line.{Line}
 use Rattle.issuing.proofs.Gathered.{gathered_none, gathered_more}
 use Rattle.season.specs.Law.{sum_of}
 use Rattle.season.proofs.Sums.{sum_append}
-
-pub sum_none : (picks : Line → Bool) → sum_of picks [] ≡ pos 0
-unfolding sum_of
-sum_none picks = refl
 
 sum_one : (picks : Line → Bool) (l : Line) → sum_of picks (l ∷ []) ≡ cond (picks l) l.volume (pos 0)
 unfolding sum_of

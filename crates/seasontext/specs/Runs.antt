@@ -10,6 +10,7 @@ use Rattle.domain.specs.declared.terms.Terms.{Terms}
 use Rattle.rules.specs.House.{house}
 use Rattle.files.specs.Contents.{of_statement, file_of}
 use Rattle.files.specs.Formats.{most_bytes}
+use Rattle.files.specs.declared.records.Intro.{Intro}
 use Rattle.book.specs.Statements.{lines_from, statement_answer}
 use Rattle.book.specs.Volumes.{volume_answer}
 use Rattle.season.specs.Outcomes.{outcome, state_of}
@@ -19,6 +20,7 @@ use Rattle.season.specs.declared.Call.TheVariants as call
 use Rattle.season.specs.declared.Accepted.{Accepted}
 use Rattle.season.specs.declared.Accepted.TheVariants.{Done, Scheduled, Issued}
 use Rattle.domain.specs.declared.Fault.{Fault}
+use Rattle.seasonlines.specs.Lists.{figures_in}
 use Rattle.seasonlines.specs.declared.Entry.{Entry}
 use Rattle.seasonlines.specs.declared.Entry.TheVariants as entry
 use Rattle.seasonlines.specs.declared.Request.{Request}
@@ -141,15 +143,14 @@ lent rows = record { ref_ptr = (0, 0); now = rows }
 -- the open schedule is called
 unfoldable pub closed_by : Option Draft → Run → Run
 closed_by None s = s
-closed_by (Some d) s = called (call.Schedule d.sender d.day d.moment (lent d.rows)) (with_draft None s)
+closed_by (Some d) s = called (call.Schedule d.intro.sender d.intro.day d.intro.moment (lent d.rows)) (with_draft None s)
 
 abbrev pub closed : Run → Run
 closed s = closed_by s.draft s
 
 -- a schedule begins, and each period's row has method 0
-unfoldable pub drafted : ℕ → ℕ → ℕ → Run → Run
-drafted sender day moment s =
-    with_draft (Some (record { sender = sender; day = day; moment = moment; rows = replicate periods no_row })) s
+unfoldable pub drafted : Intro → Run → Run
+drafted intro s = with_draft (Some (record { intro = intro; rows = replicate periods no_row })) s
 
 -- rows with this one at n places from `first` on
 unfoldable pub rows_with : AllocationRow → ℕ → ℕ → List AllocationRow → List AllocationRow
@@ -159,7 +160,7 @@ rows_with row first (suc n) rows = slice_set (rows_with row first n rows) (first
 -- a schedule with a row for the periods from one to another
 abbrev pub rowed : Draft → ℕ → ℕ → AllocationRow → Draft
 rowed d from to row =
-    record { sender = d.sender; day = d.day; moment = d.moment; rows = rows_with row (from - 1) (to - (from - 1)) d.rows }
+    record { intro = d.intro; rows = rows_with row (from - 1) (to - (from - 1)) d.rows }
 
 -- the same of the open schedule, if there is one
 unfoldable pub row_put : ℕ → Option Draft → ℕ → ℕ → AllocationRow → Run → Run
@@ -196,7 +197,7 @@ within (Err (faulty.Line slip)) = false
 abbrev pub asked : Request → Run → Run
 asked (request.Register place day supplier) s = called (call.Register place day supplier) s
 asked (request.Reading day period quality kwh) s = called (call.Reading day period quality kwh) s
-asked (request.Readings day quality figures) s = read_all day quality figures.items (length figures.items) s
+asked (request.Readings day quality figures) s = read_all day quality (figures_in figures) (length (figures_in figures)) s
 asked (request.End sender day moment) s = called (call.End sender day moment) s
 asked (request.Issue day run) s = issued_day day run s
 asked (request.Volume day period place) s = volume_asked day period place s
@@ -207,7 +208,7 @@ abbrev pub entered : ℕ → Result (Option Entry) Faulty → Run → Run
 entered number (Ok None) s = s
 entered number (Ok (Some (entry.Terms places days capacity))) s = slipped number TermsAgain s
 entered number (Ok (Some (entry.Tables holders rows journal))) s = tables_put number holders rows journal s
-entered number (Ok (Some (entry.Schedule sender day moment))) s = drafted sender day moment s
+entered number (Ok (Some (entry.Schedule sender day moment))) s = drafted (record { sender = sender; day = day; moment = moment }) s
 entered number (Ok (Some (entry.Row from to row))) s = row_put number s.draft from to row s
 entered number (Ok (Some (entry.Ask r))) s = asked r s
 entered number (Err (faulty.Row slip)) s = row_faulty number s.draft slip s

@@ -1,6 +1,7 @@
 -- What is printed of a call, behind its number, and of a line that is no call.
-use Rattle.std.specs.Prelude.{ℕ, ◌+◌, ◌/◌, ◌%◌, Bool, cond, ◌&&◌, List, [], ◌∷◌, ◌++◌, take, Some, None, Ok, Err, codes, decimal, Option, Result, nat_lt}
+use Rattle.std.specs.Prelude.{ℕ, Bool, cond, ◌&&◌, List, [], ◌++◌, take, Some, None, Ok, Err, codes, decimal, Option, Result}
 use Rattle.std.specs.List.{flat_map}
+use Rattle.text.specs.Hex.{hex}
 use Rattle.domain.specs.Texts.{refusal_text, line_text}
 use Rattle.domain.specs.declared.Fault.{Fault}
 use Rattle.domain.specs.declared.Line.{Line}
@@ -9,18 +10,6 @@ use Rattle.season.specs.declared.Accepted.{Accepted}
 use Rattle.season.specs.declared.Accepted.TheVariants.{Done, Scheduled, Issued}
 use Rattle.seasonlines.specs.Slips.{slip_text}
 use Rattle.seasonlines.specs.declared.Slip.{Slip}
-
--- a number below 16 as a digit, 0 to 9 and then a to f
-abbrev pub hex_digit : ℕ → ℕ
-hex_digit n = cond (nat_lt n 10) (48 + n) (87 + n)
-
--- a byte as two such digits
-abbrev pub hex_byte : ℕ → List ℕ
-hex_byte b = hex_digit (b / 16) ∷ hex_digit (b % 16) ∷ []
-
--- bytes, each as two digits
-abbrev pub hex : List ℕ → List ℕ
-hex bs = flat_map hex_byte bs
 
 -- the call `number` was accepted, and handed out bytes
 abbrev pub bytes_text : ℕ → List ℕ → List ℕ

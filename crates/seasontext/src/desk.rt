@@ -1,5 +1,5 @@
 // The desk at which a season is run: its book and tables, and what has been printed.
-ghost use Rattle.std.specs.Prelude.{◌≡◌, ◌+◌, ◌-◌, ◌^◌, ◌<◌, not, ◌&&◌, is_ok, IfOk, if◌then◌else◌, Some, OnOk, ◌==◌, length, slice_index_or};
+ghost use Rattle.std.specs.Prelude.{◌≡◌, ◌+◌, ◌-◌, ◌^◌, ◌<◌, ◌≤◌, not, ◌&&◌, is_ok, IfOk, if◌then◌else◌, Some, OnOk, ◌==◌, length, slice_index_or};
 ghost use Rattle.rules.specs.House.{house};
 ghost use Rattle.domain.specs.Checks.{no_reading};
 ghost use Rattle.domain.specs.Limits.{periods};
@@ -11,41 +11,37 @@ ghost use Rattle.seasontext.specs.Runs.{slipped, answered, told, stepped, came_o
 ghost use Rattle.seasontext.specs.Seen.{seen};
 ghost use Rattle.seasontext.specs.Texts.{buffer_text};
 
-use crate::memory::{NoMemory, following};
 use crate::texts::{put_outcome, put_slip, put_statement, put_volume};
 use book::Book;
 use domain::{AllocationRow, Fault, Line, PERIODS, Reading, Slot};
+use files::{Intro, MAX_FILE};
 use history::Dated;
 use rules::House;
 use season::{Accepted, Call, Outcome, Tables, apply};
 use seasonlines::{Entry, Faulty, Request, Slip};
-use std::alloc::Global;
-
-// The bytes of a statement of as many lines as one may have.
-const STATEMENT_BYTES: usize = 45_064;
+use std::alloc::{AllocError, Global};
 
 // What a line of the input says, if it says anything.
 pub(crate) type Said = Result<Option<Entry>, Faulty>;
 
 // A schedule whose rows have not ended.
-#[derive(Clone, Copy)]
+#[derive(Clone, Copy, Debug, PartialEq, Eq)]
 pub(crate) struct Draft {
-    pub(crate) sender: u16,
-    pub(crate) day: u16,
-    pub(crate) moment: u32,
+    pub(crate) intro: Intro,
     pub(crate) rows: [AllocationRow; 48],
 }
 
 #[derive(Drop)]
 pub(crate) struct Desk {
     pub(crate) heap: Global,
+    // the book and its five tables are no type shared with benchsite and openbook: these are vectors, which the season's text may size again, and a struct made of their slices loses, in a proof, what they hold
     pub(crate) book: Book<House>,
     pub(crate) holders: Vec<Dated<u16>>,
     pub(crate) rows: Vec<Dated<AllocationRow>>,
     pub(crate) readings: Vec<Reading>,
     pub(crate) issued: Vec<Slot>,
     pub(crate) journal: Vec<Line>,
-    // the kWh of the last accepted issue, for each slot of a day's period
+    // the kWh of the last accepted issue, for each slot of a day's period: beside the readings, slot by slot, and not in them, since that table is lent to the book as it is
     pub(crate) split: Vec<Option<u32>>,
     pub(crate) quiet: bool,
     pub(crate) calls: u64,
@@ -57,6 +53,7 @@ pub(crate) struct Desk {
 
 impl Desk {
     // Does what a call says.
+    #[tactic(auto, unfolding(crate::specs::Seen::seen, crate::specs::Runs::came_of, crate::specs::Runs::stepped))]
     fn step(&mut self, call: Call<'_>) -> Outcome
         ensures answer { result ≡ came_of call.entry (seen self.old) }
         ensures after { seen self.new ≡ stepped call.entry (seen self.old) }
@@ -72,11 +69,12 @@ impl Desk {
         )
     }
 
-    // Counts a call, and answers its number.
-    fn count(&mut self) -> Result<u64, NoMemory>
+    // Counts a call, and answers its number. A count past 64 bits, which no input reaches, is told as want of memory: a bound on it would have to stand in the contract of each function that calls, up to the season.
+    #[tactic(auto, unfolding(crate::specs::Seen::seen))]
+    fn count(&mut self) -> Result<u64, AllocError>
         ensures { IfOk result (λ n. (n ≡ self.old.calls + 1) × (seen self.new ≡ counted (seen self.old))) }
     {
-        let number = following(self.calls)?;
+        let number = self.calls.checked_add(1).ok_or(AllocError)?;
         self.calls = number;
         Ok(number)
     }
@@ -88,8 +86,9 @@ impl Desk {
         self.quiet && accepted
     }
 
-    // Counts a call, and prints what came of it.
-    fn tell(&mut self, first: usize, outcome: Outcome) -> Result<(), NoMemory>
+    // Counts a call, and prints what came of it. `tell`, `volume` and `tell_statement` each count, ask whether they are silent, and put: in one method that takes a closure for what to put, this closure could not be lent the journal, since the method is lent the desk to write into its text.
+    #[tactic(auto, unfolding(crate::specs::Seen::seen, crate::specs::Runs::told, crate::specs::Runs::answered))]
+    fn tell(&mut self, first: usize, outcome: Outcome) -> Result<(), AllocError>
         ensures { OnOk result (seen self.new ≡ told first outcome (seen self.old)) }
     {
         let number = self.count()?;
@@ -97,12 +96,12 @@ impl Desk {
             return Ok(());
         }
         let journal = self.journal.as_slice();
-        put_outcome(&mut self.text, number, journal, first, outcome)?;
-        Ok(())
+        put_outcome(&mut self.text, number, journal, first, outcome)
     }
 
     // Makes a call.
-    fn call(&mut self, call: Call<'_>) -> Result<(), NoMemory>
+    #[tactic(auto, unfolding(crate::specs::Seen::seen, crate::specs::Runs::called))]
+    fn call(&mut self, call: Call<'_>) -> Result<(), AllocError>
         ensures { OnOk result (seen self.new ≡ called call.entry (seen self.old)) }
     {
         let first = self.book.lines();
@@ -111,7 +110,8 @@ impl Desk {
     }
 
     // Issues a day, and notes the kWh that were split.
-    fn issue(&mut self, day: u16, run: u8) -> Result<(), NoMemory>
+    #[tactic(auto, unfolding(crate::specs::Seen::seen, crate::specs::Runs::issued_day))]
+    fn issue(&mut self, day: u16, run: u8) -> Result<(), AllocError>
         ensures { OnOk result (seen self.new ≡ issued_day day run (seen self.old)) }
     {
         let first = self.book.lines();
@@ -120,6 +120,7 @@ impl Desk {
         self.tell(first, outcome)
     }
 
+    #[tactic(auto, unfolding(crate::specs::Seen::seen, crate::specs::Runs::noted))]
     fn note(&mut self, outcome: Outcome, day: u16)
         ensures { seen self.new ≡ noted outcome day (seen self.old) }
     {
@@ -132,7 +133,8 @@ impl Desk {
         }
     }
 
-    fn volume(&mut self, day: u16, period: u8, place: u8) -> Result<(), NoMemory>
+    #[tactic(auto, unfolding(crate::specs::Seen::seen, crate::specs::Runs::volume_asked, crate::specs::Runs::answered))]
+    fn volume(&mut self, day: u16, period: u8, place: u8) -> Result<(), AllocError>
         ensures { OnOk result (seen self.new ≡ volume_asked day period place (seen self.old)) }
     {
         let answer = self.book.volume(self.issued.as_slice(), day, period, place);
@@ -140,14 +142,13 @@ impl Desk {
         if self.is_silent(answer.is_ok()) {
             return Ok(());
         }
-        put_volume(&mut self.text, number, answer)?;
-        Ok(())
+        put_volume(&mut self.text, number, answer)
     }
 
-    fn statement(&mut self, first: u64, count: u64) -> Result<(), NoMemory>
+    fn statement(&mut self, first: u64, count: u64) -> Result<(), AllocError>
         ensures { OnOk result (seen self.new ≡ statement_asked first count (seen self.old)) }
     {
-        let mut file = vec![in self.heap; 0u8; STATEMENT_BYTES]?;
+        let mut file = vec![in self.heap; 0u8; MAX_FILE]?;
         let answer = self.book.statement(
             self.journal.as_slice(),
             first as usize,
@@ -158,23 +159,23 @@ impl Desk {
     }
 
     // Counts a statement, and prints the file at the start of a buffer.
+    #[tactic(auto, unfolding(crate::specs::Seen::seen, crate::specs::Runs::answered))]
     fn tell_statement(
         &mut self,
         buffer: &[u8],
         answer: Result<usize, Fault>,
-    ) -> Result<(), NoMemory>
+    ) -> Result<(), AllocError>
         ensures { OnOk result (seen self.new ≡ answered (is_ok answer) (buffer_text (self.old.calls + 1) buffer.now answer) (seen self.old)) }
     {
         let number = self.count()?;
         if self.is_silent(answer.is_ok()) {
             return Ok(());
         }
-        put_statement(&mut self.text, number, buffer, answer)?;
-        Ok(())
+        put_statement(&mut self.text, number, buffer, answer)
     }
 
     // Reads the figure of a period.
-    fn reading(&mut self, day: u16, period: u8, quality: u8, kwh: u32) -> Result<(), NoMemory>
+    fn reading(&mut self, day: u16, period: u8, quality: u8, kwh: u32) -> Result<(), AllocError>
         ensures { OnOk result (seen self.new ≡ called (call.Reading day period quality kwh) (seen self.old)) }
     {
         self.call(Call::Reading {
@@ -186,52 +187,59 @@ impl Desk {
     }
 
     // Reads the figures of the periods from 1 on.
-    fn readings(&mut self, day: u16, quality: u8, figures: &[u32]) -> Result<(), NoMemory>
-        requires { length figures.now < 2 ^ 8 }
+    #[tactic(auto, unfolding(crate::specs::Runs::read_all))]
+    fn readings(&mut self, day: u16, quality: u8, figures: &[u32]) -> Result<(), AllocError>
+        requires { length figures.now ≤ periods }
         ensures { OnOk result (seen self.new ≡ read_all day quality figures.now (length figures.now) (seen self.old)) }
     {
-        for (index, &kwh) in figures.iter().enumerate() {
-            self.reading(day, index as u8 + 1, quality, kwh)?;
+        for (period, &kwh) in (1..=PERIODS).zip(figures) {
+            self.reading(day, period, quality, kwh)?;
         }
         Ok(())
     }
 
     // Calls the open schedule, if there is one.
-    pub(crate) fn close(&mut self) -> Result<(), NoMemory>
+    #[tactic(auto, unfolding(crate::specs::Seen::seen, crate::specs::Runs::closed_by))]
+    pub(crate) fn close(&mut self) -> Result<(), AllocError>
         ensures { OnOk result (seen self.new ≡ closed (seen self.old)) }
     {
         let Some(draft) = self.draft.take() else {
             return Ok(());
         };
+        let Intro {
+            sender,
+            day,
+            moment,
+        } = draft.intro;
         self.call(Call::Schedule {
-            sender: draft.sender,
-            day: draft.day,
-            moment: draft.moment,
+            sender,
+            day,
+            moment,
             rows: &draft.rows,
         })
     }
 
     // Opens a schedule that has no rows yet.
-    fn draft(&mut self, sender: u16, day: u16, moment: u32)
-        ensures { seen self.new ≡ drafted sender day moment (seen self.old) }
+    #[tactic(auto, unfolding(crate::specs::Seen::seen, crate::specs::Runs::drafted))]
+    fn draft(&mut self, intro: Intro)
+        ensures { seen self.new ≡ drafted intro (seen self.old) }
     {
         self.draft = Some(Draft {
-            sender,
-            day,
-            moment,
+            intro,
             rows: [AllocationRow::NONE; 48],
         });
     }
 
-    fn slip(&mut self, number: u64, slip: Slip) -> Result<(), NoMemory>
+    #[tactic(auto, unfolding(crate::specs::Seen::seen, crate::specs::Runs::slipped))]
+    fn slip(&mut self, number: u64, slip: Slip) -> Result<(), AllocError>
         ensures { OnOk result (seen self.new ≡ slipped number slip (seen self.old)) }
     {
-        put_slip(&mut self.text, number, slip)?;
-        Ok(())
+        put_slip(&mut self.text, number, slip)
     }
 
     // Puts a row into the open schedule.
-    fn row(&mut self, number: u64, from: u8, to: u8, row: AllocationRow) -> Result<(), NoMemory>
+    #[tactic(auto, unfolding(crate::specs::Seen::seen, crate::specs::Runs::row_put))]
+    fn row(&mut self, number: u64, from: u8, to: u8, row: AllocationRow) -> Result<(), AllocError>
         ensures { OnOk result (seen self.new ≡ row_put number (seen self.old).draft from to row (seen self.old)) }
     {
         // copied and stored back: of rows that are written where they stand, a proof knows nothing
@@ -243,7 +251,8 @@ impl Desk {
         Ok(())
     }
 
-    fn faulty_row(&mut self, number: u64, slip: Slip) -> Result<(), NoMemory>
+    #[tactic(auto, unfolding(crate::specs::Seen::seen, crate::specs::Runs::row_faulty))]
+    fn faulty_row(&mut self, number: u64, slip: Slip) -> Result<(), AllocError>
         ensures { OnOk result (seen self.new ≡ row_faulty number (seen self.old).draft slip (seen self.old)) }
     {
         match self.draft {
@@ -260,7 +269,14 @@ impl Desk {
     }
 
     // Gives tables 1, 2 and 5 their sizes, once and before the first call.
-    fn tables(&mut self, number: u64, holders: u64, rows: u64, journal: u64) -> Result<(), NoMemory>
+    #[tactic(auto, unfolding(crate::specs::Seen::seen, crate::specs::Runs::tables_put))]
+    fn tables(
+        &mut self,
+        number: u64,
+        holders: u64,
+        rows: u64,
+        journal: u64,
+    ) -> Result<(), AllocError>
         ensures { OnOk result (seen self.new ≡ tables_put number holders rows journal (seen self.old)) }
     {
         if self.is_fresh() {
@@ -270,7 +286,8 @@ impl Desk {
         }
     }
 
-    fn size(&mut self, holders: u64, rows: u64, journal: u64) -> Result<(), NoMemory>
+    #[tactic(auto, unfolding(crate::specs::Seen::seen, crate::specs::Runs::tables_of))]
+    fn size(&mut self, holders: u64, rows: u64, journal: u64) -> Result<(), AllocError>
         ensures { OnOk result (seen self.new ≡ tables_of holders rows journal (seen self.old)) }
     {
         let heap = self.heap;
@@ -282,7 +299,8 @@ impl Desk {
     }
 
     // What the line `number` does.
-    pub(crate) fn line(&mut self, number: u64, said: Said) -> Result<(), NoMemory>
+    #[tactic(auto, unfolding(crate::specs::Runs::line_done))]
+    pub(crate) fn line(&mut self, number: u64, said: Said) -> Result<(), AllocError>
         ensures { OnOk result (seen self.new ≡ line_done number said (seen self.old)) }
     {
         self.settle(&said)?;
@@ -290,7 +308,7 @@ impl Desk {
     }
 
     // Calls the open schedule where a line ends it.
-    fn settle(&mut self, said: &Said) -> Result<(), NoMemory>
+    fn settle(&mut self, said: &Said) -> Result<(), AllocError>
         ensures { OnOk result (seen self.new ≡ (if within said.now then seen self.old else closed (seen self.old))) }
     {
         if is_within(said) {
@@ -301,7 +319,7 @@ impl Desk {
     }
 
     // What a line does, once the schedule before it has been called.
-    fn enter(&mut self, number: u64, said: Said) -> Result<(), NoMemory>
+    fn enter(&mut self, number: u64, said: Said) -> Result<(), AllocError>
         ensures { OnOk result (seen self.new ≡ entered number said (seen self.old)) }
     {
         match said {
@@ -325,7 +343,11 @@ impl Desk {
                     },
                 ),
             ) => {
-                self.draft(sender, day, moment);
+                self.draft(Intro {
+                    sender,
+                    day,
+                    moment,
+                });
                 Ok(())
             }
             Ok(Some(Entry::Row { from, to, row })) => self.row(number, from, to, row),
@@ -336,7 +358,7 @@ impl Desk {
     }
 
     // Makes a call, or asks a question.
-    fn ask(&mut self, request: Request) -> Result<(), NoMemory>
+    fn ask(&mut self, request: Request) -> Result<(), AllocError>
         ensures { OnOk result (seen self.new ≡ asked request (seen self.old)) }
     {
         match request {
@@ -424,7 +446,8 @@ fn kwh_at(readings: &[Reading], slot: usize) -> u32
     readings.get(slot).map_or(0, |reading| reading.kwh)
 }
 
-// Copies the kWh of a day's slots, from `first` on. A slot is written by its index: of what a loop over `iter_mut` wrote, a proof knows only the length.
+// Copies the kWh of a day's slots, from `first` on. A slot is written by its index: of what a loop over an adapter of `iter_mut` wrote, such as `skip`, `take` or `zip`, a proof knows only the length.
+#[tactic(auto, unfolding(crate::specs::Runs::copied))]
 fn copy_kwh(readings: &[Reading], split: &mut [Option<u32>], first: usize)
     requires { first < 2 ^ 32 }
     ensures { split.new ≡ copied readings.now first periods split.old }

@@ -9,7 +9,6 @@ ghost use Rattle.seasontext.specs.Seasons.{terms_in, slip_before, before_text, u
 
 use desk::{Desk, Said};
 use domain::{Fault, Terms};
-use memory::NoMemory;
 use running::Numbered;
 use seasonlines::{Entry, Faulty, Slip, read_line};
 use std::alloc::{AllocError, Global};
@@ -18,7 +17,6 @@ use text::Lines;
 use texts::put_slip;
 
 mod desk;
-mod memory;
 mod running;
 mod sums;
 mod texts;
@@ -31,11 +29,12 @@ pub fn season_text(heap: Global, input: &[u8], quiet: bool) -> Result<Vec<u8>, A
 }
 
 // No season prints that a half hour differs: the lines of each that was split add up to the kWh of its last issue.
+#[tactic(auto, using(crate::proofs::Agreed::seasons_agree))]
 pub fn seasons_agree()
     ensures { SeasonsAgree }
 {}
 
-fn season(heap: Global, input: &[u8], quiet: bool) -> Result<String, NoMemory>
+fn season(heap: Global, input: &[u8], quiet: bool) -> Result<String, AllocError>
     ensures { IfOk result (λ s. string_bytes s ≡ season_text quiet input.now) }
 {
     let mut text = String::new(heap);
@@ -59,6 +58,7 @@ fn season(heap: Global, input: &[u8], quiet: bool) -> Result<String, NoMemory>
 }
 
 // Tells of the lines before the terms, and finds these, or why they are refused. The lines behind them are left.
+#[tactic(auto, unfolding(crate::specs::Seasons::until_terms, crate::specs::Seasons::opened_by))]
 fn find_terms(
     text: &mut String,
     lines: &mut Numbered<'_>,
@@ -115,6 +115,7 @@ fn slip_before(said: &Said) -> Option<Slip>
     }
 }
 
+// Adds what is wrong with a line before the terms, if it says anything. It is a function and no `Display`: it is called once, and a type for it would be made for one `write!`.
 fn put_before(text: &mut String, number: u64, said: &Said) -> Result<(), AllocError>
     ensures { OnOk result (string_bytes text.new ≡ string_bytes text.old ++ before_text number said.now) }
 {

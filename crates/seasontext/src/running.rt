@@ -6,7 +6,6 @@ ghost use Rattle.seasontext.specs.Seasons.{start_of, run_lines, ended};
 ghost use Rattle.seasontext.specs.Seen.{seen};
 
 use crate::desk::Desk;
-use crate::memory::NoMemory;
 use crate::sums::put_tables;
 use crate::texts::lines_from;
 use book::Book;
@@ -19,7 +18,7 @@ use std::iter::Zip;
 use std::ops::RangeFrom;
 use text::Lines;
 
-// The lines of a season that are left, each with its number.
+// The lines of a season that are left, each with its number. That their numbers have 64 bits stands in the contract of each function that takes them: this is the library's `zip`, which has no place for a ghost field, and an iterator of our own would repeat it.
 pub(crate) type Numbered<'a> = Zip<RangeFrom<u64>, Lines<'a>>;
 
 // Entries of the tables of holders and of the journal, if no line says otherwise.
@@ -57,7 +56,8 @@ impl Desk {
     }
 
     // Does what the lines say.
-    fn lines(&mut self, lines: Numbered<'_>) -> Result<(), NoMemory>
+    #[tactic(auto, unfolding(crate::specs::Seasons::run_lines))]
+    fn lines(&mut self, lines: Numbered<'_>) -> Result<(), AllocError>
         requires { HasNumbers lines.a.start (lines_left lines.b) }
         ensures { OnOk result (seen self.new ≡ run_lines lines.entry.a.start (seen self.old) (lines_left lines.entry.b)) }
     {
@@ -68,18 +68,18 @@ impl Desk {
     }
 
     // Calls an open schedule, and adds the two tables.
-    fn end(&mut self) -> Result<(), NoMemory>
+    #[tactic(auto, unfolding(crate::specs::Seen::seen, crate::specs::Seasons::ended))]
+    fn end(&mut self) -> Result<(), AllocError>
         ensures { OnOk result (string_bytes self.new.text ≡ ended (seen self.old)) }
     {
         self.close()?;
         let count = self.book.lines();
         let lines = lines_from(self.journal.as_slice(), 0, count);
-        put_tables(self.heap, &mut self.text, lines, self.split.as_slice())?;
-        Ok(())
+        put_tables(self.heap, &mut self.text, lines, self.split.as_slice())
     }
 
     // Runs a season's lines to its end.
-    pub(crate) fn run(&mut self, lines: Numbered<'_>) -> Result<(), NoMemory>
+    pub(crate) fn run(&mut self, lines: Numbered<'_>) -> Result<(), AllocError>
         requires { HasNumbers lines.a.start (lines_left lines.b) }
         ensures { OnOk result (string_bytes self.new.text ≡ ended (run_lines lines.entry.a.start (seen self.old) (lines_left lines.entry.b))) }
     {

@@ -1,4 +1,5 @@
 // The two tables at the end of a season. What adds to a text here chooses the rows and works out their sums; a row prints by one `write!`.
+// A row or a table is printed in one place, and the two tables together in two, so each is a function and no `Display`: a type for it, or a struct for the text and the lines that it takes, would be made for one call.
 ghost use Rattle.std.specs.Prelude.{◌≡◌, ◌++◌, Bool, IfOk, string_bytes, OnOk};
 ghost use Rattle.std.specs.Fn.{FnReturnsAt};
 ghost use Rattle.std.specs.List.{flat_map};
@@ -11,6 +12,7 @@ use std::alloc::{AllocError, Global};
 use std::collections::BTreeSet;
 
 // The volumes of the lines that are picked, added up.
+#[tactic(auto, unfolding(season::specs::Law::sum_of))]
 fn sum_of<F: Fn(&Line) -> bool>(lines: &[Line], picks: F) -> i128
     requires { F.IsAlwaysCallable picks }
     ensures { (p : Line → Bool) → Tells (FnReturnsAt F.Fn picks) p → result ≡ sum_of p lines.now }
@@ -47,6 +49,7 @@ fn put_period(
 }
 
 // Adds a day's rows of the first table.
+#[tactic(auto, unfolding(domain::specs::Lines::gathered))]
 fn put_day(
     text: &mut String,
     lines: &[Line],
@@ -55,6 +58,7 @@ fn put_day(
 ) -> Result<(), AllocError>
     ensures { OnOk result (string_bytes text.new ≡ string_bytes text.old ++ day_text lines.now split.now day) }
 {
+    // a half hour is asked for by its number: the day's part of the split may be short or missing, and to cut it out is no plainer
     for period in 1..=PERIODS {
         let part = split.get(reading_slot(day, period)).copied().flatten();
         put_period(text, lines, day, period, part)?;
@@ -63,10 +67,11 @@ fn put_day(
 }
 
 // Adds the first table.
+#[tactic(auto, using(crate::proofs::Totals::gathered_begin, crate::proofs::Totals::gathered_turn))]
 fn put_days(text: &mut String, lines: &[Line], split: &[Option<u32>]) -> Result<(), AllocError>
     ensures { OnOk result (string_bytes text.new ≡ string_bytes text.old ++ period_table lines.now split.now) }
 {
-    // a half hour is asked for by the numbers of its day and period
+    // the days are numbers: a loop over parts of the split would be bounded by the days too, and is no plainer
     for day in 0..MAX_DAYS {
         put_day(text, lines, split, day)?;
     }

@@ -1,32 +1,19 @@
-// What is printed of a call, behind its number, and of a line that is no call. What adds to a text here chooses between answers; each prints by one `write!` and Display.
+// What is printed of a call, behind its number, and of a line that is no call. Each answer is one `write!` into the season's text, with Display.
+// An answer is printed in one place, so it is a function and no `Display`: a type for it, or a struct for the text and the number that it takes, would be made for one `write!`.
 ghost use Rattle.std.specs.Prelude.{◌≡◌, ◌++◌, Some, string_bytes, OnOk};
 ghost use Rattle.std.specs.List.{flat_map};
 ghost use Rattle.book.specs.Statements.{lines_from};
-ghost use Rattle.seasontext.specs.Texts.{hex, sent_text, outcome_text, volume_text, buffer_text, slip_line};
+ghost use Rattle.seasontext.specs.Texts.{sent_text, outcome_text, volume_text, buffer_text, slip_line};
 
 use domain::{Fault, Line};
 use season::{Accepted, Outcome};
 use seasonlines::Slip;
 use std::alloc::AllocError;
 use std::fmt;
-
-// Bytes, each as two digits.
-#[derive(Clone, Copy)]
-struct Hex<'a>(&'a [u8]);
-
-impl fmt::Display for Hex<'_> {
-    ghost output = { λ h. Some (hex h.0.now) };
-
-    fn fmt<W: fmt::Write>(&self, f: &mut fmt::Formatter<W>) -> fmt::Result {
-        for &byte in self.0 {
-            write!(f, "{byte:02x}")?;
-        }
-        Ok(())
-    }
-}
+use text::Hex;
 
 // Lines that an issue sent, each on a line of its own.
-#[derive(Clone, Copy)]
+#[derive(Clone, Copy, Debug, PartialEq, Eq)]
 struct Sent<'a>(&'a [Line]);
 
 impl fmt::Display for Sent<'_> {
@@ -102,7 +89,7 @@ pub(crate) fn put_statement(
     }
 }
 
-// Adds what is wrong with a line of the input.
+// Adds what is wrong with a line of the input, before the terms and behind them: it is called in these two places.
 pub(crate) fn put_slip(text: &mut String, number: u64, slip: Slip) -> Result<(), AllocError>
     ensures { OnOk result (string_bytes text.new ≡ string_bytes text.old ++ slip_line number slip) }
 {

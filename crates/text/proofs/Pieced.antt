@@ -1,9 +1,8 @@
-use Rattle.std.proofs.Common.{◌≡◌, ℕ, suc, ◌+◌, ◌-◌, ◌<◌, Bool, true, false, not, eqb, List, [], ◌∷◌, ◌++◌, length, take, drop, sym, refl, ap, ◌∙◌, ⊎_elim, append_assoc, append-nil, add-zero, one-add, arith, length-append, length-drop}
+use Rattle.std.proofs.Common.{◌≡◌, ℕ, suc, ◌+◌, ◌-◌, ◌<◌, Bool, true, false, not, eqb, ◌≢◌, List, [], ◌∷◌, ◌++◌, length, take, drop, sym, refl, ap, ◌∙◌, ⊎_elim, append_assoc, append-nil, add-zero, one-add, arith, length-append, length-drop}
 use Rattle.std.specs.List.{prefix_len}
 use Rattle.std.proofs.lemmas.List.{drop-drop, nil_from_length}
 use Rattle.std.proofs.lemmas.List.Sums.{prefix_len-le-length}
 use Rattle.std.proofs.lemmas.Bool.{cases_Bool}
-use Rattle.text.specs.Pieces.{Begins}
 use Rattle.text.specs.Words.{blank, ended, words_after, words_of, lines_after, lines_of}
 
 abbrev pub letter : ℕ → Bool
@@ -13,19 +12,19 @@ abbrev pub inside : ℕ → Bool
 inside c = not (eqb c 10)
 
 -- a piece that has begun
-pub ended_some : (w : List ℕ) → 0 < length w → ended w ≡ w ∷ []
+ended_some : (w : List ℕ) → 0 < length w → ended w ≡ w ∷ []
 ended_some [] h = absurd (omega arith)
 ended_some (c ∷ w) h = refl
 
 -- blanks before the first word do not count
-pub words_skip : (cs : List ℕ) → words_of cs ≡ words_of (drop (prefix_len blank cs) cs)
+words_skip : (cs : List ℕ) → words_of cs ≡ words_of (drop (prefix_len blank cs) cs)
 words_skip [] = refl
 words_skip (c ∷ cs) =
     ⊎_elim (λ (e : blank c ≡ true). rw (e, one-add) (words_skip cs)) (λ (e : blank c ≡ false). rw e (rw e refl))
     (cases_Bool (blank c))
 
 -- the letters up to a blank end a word
-pub words_first : (w cs : List ℕ) → 0 < length w + prefix_len letter cs → words_after w cs ≡ (w ++ take (prefix_len letter cs) cs) ∷ words_of (drop (prefix_len letter cs) cs)
+words_first : (w cs : List ℕ) → 0 < length w + prefix_len letter cs → words_after w cs ≡ (w ++ take (prefix_len letter cs) cs) ∷ words_of (drop (prefix_len letter cs) cs)
 words_first w [] h = rw append-nil (ended_some w (omega arith))
 words_first w (c ∷ cs) h =
     ⊎_elim
@@ -36,7 +35,7 @@ words_first w (c ∷ cs) h =
     (cases_Bool (blank c))
 
 -- the bytes up to a line feed are a line
-pub lines_first : (l cs : List ℕ) → 0 < length l + length cs → lines_after l cs ≡ (l ++ take (prefix_len inside cs) cs) ∷ lines_of (drop (suc (prefix_len inside cs)) cs)
+lines_first : (l cs : List ℕ) → 0 < length l + length cs → lines_after l cs ≡ (l ++ take (prefix_len inside cs) cs) ∷ lines_of (drop (suc (prefix_len inside cs)) cs)
 lines_first l [] h = rw append-nil (ended_some l (omega arith))
 lines_first l (c ∷ cs) h =
     ⊎_elim (λ (e : eqb c 10 ≡ true). rw (e, append-nil) refl)
@@ -50,23 +49,20 @@ letter_next (c ∷ cs) some =
     ⊎_elim (λ (b : blank c ≡ true). rw (b, one-add) (letter_next cs (rw (b, one-add) at some)))
     (λ (b : blank c ≡ false). rw b (rw b (omega arith))) (cases_Bool (blank c))
 
-pub begins : (xs tail : List ℕ) → tail ≡ drop (prefix_len blank xs) xs → Begins xs tail
-begins xs tail at =
-    record {
-      words = words_skip xs ∙ ap words_of (sym at);
-      short = let less = length-drop (prefix_len blank xs) xs in let same = ap length at in omega arith;
-      none = λ e. words_skip xs ∙ ap words_of (sym at ∙ nil_from_length tail e);
-      some = λ e. rw at (letter_next xs (rw at at e));
-    }
+-- with no letter after the blanks there is no word
+pub no_word : (line tail : List ℕ) → tail ≡ drop (prefix_len blank line) line → length tail ≡ 0 → words_of line ≡ []
+no_word line tail skipped none = words_skip line ∙ ap words_of (sym skipped ∙ nil_from_length tail none)
 
 -- the first word and what follows it
-pub word_cut : (tail first rest : List ℕ) → first ≡ take (prefix_len letter tail) tail → rest ≡ drop (prefix_len letter tail) tail → 0 < prefix_len letter tail → (words_of tail ≡ first ∷ words_of rest) × (length rest < length tail)
-word_cut tail first rest ef er some =
+pub word_cut : (line tail first rest : List ℕ) → tail ≡ drop (prefix_len blank line) line → length tail ≢ 0 → first ≡ take (prefix_len letter tail) tail → rest ≡ drop (prefix_len letter tail) tail → (words_of line ≡ first ∷ words_of rest) × (length rest < length line)
+word_cut line tail first rest et some ef er =
+    let begins : 0 < prefix_len letter tail = rw et (letter_next line (rw et at some)) in
     let split = words_first [] tail (omega arith) in
     let same : (take (prefix_len letter tail) tail ∷ words_of (drop (prefix_len letter tail) tail)) ≡ first ∷ words_of rest = cc in
     let within = prefix_len-le-length letter tail in
     let shorter : length rest ≡ length tail - prefix_len letter tail = ap length er ∙ length-drop (prefix_len letter tail) tail in
-    (split ∙ same, omega arith)
+    let less : length tail ≡ length line - prefix_len blank line = ap length et ∙ length-drop (prefix_len blank line) line in
+    (words_skip line ∙ (ap words_of (sym et) ∙ (split ∙ same)), omega arith)
 
 -- the first line and what follows it
 pub line_cut : (xs first tail rest : List ℕ) → 0 < length xs → first ≡ take (prefix_len inside xs) xs → tail ≡ drop (prefix_len inside xs) xs → rest ≡ drop 1 tail → (lines_of xs ≡ first ∷ lines_of rest) × (length rest < length xs)

@@ -3,3 +3,4 @@ pub mod Pieces
 pub mod Numbers
 pub mod Fields
 pub mod Left
+pub mod Hex

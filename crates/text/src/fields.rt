@@ -30,7 +30,7 @@ impl fmt::Display for WordFault {
     }
 }
 
-// The words of a line that have not been taken yet. A method that is told a `place` is told the number of the word that comes next.
+// The words of a line that have not been taken yet, in the form of `Lines`, which says why both stay. A method that is told a `place` is told the number of the word that comes next.
 #[derive(Drop)]
 pub struct Words<'a> {
     pub rest: &'a [u8],
@@ -79,6 +79,7 @@ impl Words<'_> {
 }
 
 // The number that a word writes, which is the line's word `place`.
+#[tactic(auto, using(crate::proofs::Numbered::mod_within))]
 pub fn word<N: Number>(text: &[u8], place: u8) -> Result<N, WordFault>
     ensures { seen_as N.value result ≡ word_number place N.MOST text.now }
 {

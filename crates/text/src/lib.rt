@@ -1,23 +1,25 @@
 // Lines, words and decimal numbers in bytes that need not be text.
 #![tactic(auto)]
 
-ghost use Rattle.std.specs.Prelude.{◌≡◌, ℕ, ◌<◌, Bool, true, not, length, take, drop, if◌then◌else◌, Some, None, nat_le};
+ghost use Rattle.std.specs.Prelude.{◌≡◌, ℕ, Bool, true, take, drop, if◌then◌else◌, Some, None, nat_le};
 ghost use Rattle.std.specs.List.{prefix_len};
 ghost use Rattle.std.specs.Str.{all_ascii_digits};
 ghost use Rattle.std.specs.Iterator.{YieldsFirstRef, item_count};
 ghost use Rattle.text.specs.Words.{blank, words_of, lines_of, uncommented};
 ghost use Rattle.text.specs.Left.{lines_left};
-ghost use Rattle.text.specs.Pieces.{Begins, Hands, Heads};
+ghost use Rattle.text.specs.Pieces.{Hands};
 ghost use Rattle.text.specs.Numbers.{decimal_in, number_after};
 
 mod fields;
+mod hex;
 mod number;
 
 pub use fields::{WordFault, Words, word};
+pub use hex::Hex;
 pub use number::Number;
 
 // The first piece of some bytes, and what follows it.
-#[derive(Clone, Copy)]
+#[derive(Clone, Copy, PartialEq, Eq, Debug)]
 pub struct Piece<'a> {
     pub first: &'a [u8],
     pub rest: &'a [u8],
@@ -30,7 +32,7 @@ pub enum Misread {
     TooLarge,
 }
 
-// The lines of some bytes that have not been taken yet.
+// The lines of some bytes that have not been taken yet. They have the form of `Words`, but a generic type for both would carry a marker, which a caller who writes a value by its one public field could not leave out.
 #[derive(Drop)]
 pub struct Lines<'a> {
     pub rest: &'a [u8],
@@ -66,7 +68,11 @@ pub fn next_line(input: &[u8]) -> Option<Piece<'_>>
     if input.is_empty() {
         return None;
     }
-    Some(first_line(input))
+    let (first, tail) = split_while(input, |byte| byte != b'\n');
+    Some(Piece {
+        first,
+        rest: after_first(tail),
+    })
 }
 
 // The part of a line before its comment, which begins with `#`.
@@ -81,11 +87,12 @@ pub fn before_comment(line: &[u8]) -> &[u8]
 pub fn next_word(line: &[u8]) -> Option<Piece<'_>>
     ensures { Hands words_of line.now result }
 {
-    let tail = skip_blanks(line);
+    let (_, tail) = split_while(line, is_blank);
     if tail.is_empty() {
         return None;
     }
-    Some(first_word(tail))
+    let (first, rest) = split_while(tail, |byte| !is_blank(byte));
+    Some(Piece { first, rest })
 }
 
 // The number that a word of decimal digits writes, if it is at most `most`.
@@ -104,40 +111,14 @@ fn all_digits(word: &[u8]) -> bool
     word.iter().all(u8::is_ascii_digit)
 }
 
-fn first_line(input: &[u8]) -> Piece<'_>
-    requires { 0 < length input.now }
-    ensures { Heads lines_of input.now result }
-{
-    let (first, tail) = split_while(input, |byte| byte != b'\n');
-    Piece {
-        first,
-        rest: after_first(tail),
-    }
-}
-
 fn after_first(bytes: &[u8]) -> &[u8]
     ensures { result.now ≡ drop 1 bytes.now }
 {
     bytes.get(1..).unwrap_or(bytes)
 }
 
-fn skip_blanks(line: &[u8]) -> &[u8]
-    ensures { Begins line.now result.now }
-{
-    let (_, tail) = split_while(line, is_blank);
-    tail
-}
-
-// The first word of a line that begins with it.
-fn first_word(tail: &[u8]) -> Piece<'_>
-    requires { 0 < prefix_len (λ c. not (blank c)) tail.now }
-    ensures { Heads words_of tail.now result }
-{
-    let (first, rest) = split_while(tail, |byte| !is_blank(byte));
-    Piece { first, rest }
-}
-
 // The number that digits write, if it is at most `most`.
+#[tactic(auto, using(crate::proofs::Numbered::next_digit_ge))]
 fn value_within(word: &[u8], most: u64) -> Option<u64>
     requires { all_ascii_digits word.now ≡ true }
     ensures { result ≡ (if nat_le (number_after 0 word.now) most then Some (number_after 0 word.now) else None) }
@@ -161,6 +142,7 @@ fn split_while<F: Fn(u8) -> bool>(bytes: &[u8], passes: F) -> (&[u8], &[u8])
     bytes.split_at(end.unwrap_or(bytes.len()))
 }
 
+#[tactic(auto, unfolding(crate::specs::Words::blank))]
 fn is_blank(byte: u8) -> bool
     ensures { result ≡ blank byte }
 {

@@ -1,8 +1,8 @@
 // The numbers that a field of a line may be.
-ghost use Rattle.std.specs.Prelude.{◌≡◌, ℕ, ◌≤◌};
+ghost use Rattle.std.specs.Prelude.{◌≡◌, ℕ, ◌+◌, ◌%◌};
 ghost use Rattle.text.specs.Fields.{most8, most16, most32, most64};
 
-// An unsigned number of a fixed width.
+// An unsigned number of a fixed width. The four impls are written out, since a verdict takes no impl that a macro writes.
 pub trait Number: Drop {
     // The number that a value of this type is.
     ghost value: { Self → ℕ };
@@ -12,10 +12,9 @@ pub trait Number: Drop {
     // The largest number of this type.
     const MOST: u64;
 
-    // A number that fits, as this type.
+    // The number as this type. One that fits stays as it is, and of a larger one the lowest bits are kept.
     fn narrowed(number: u64) -> Self
-        requires { number ≤ MOST }
-        ensures { value result ≡ number };
+        ensures { value result ≡ number % (MOST + 1) };
 }
 
 impl Number for u8 {
@@ -26,7 +25,7 @@ impl Number for u8 {
     const MOST: u64 = u8::MAX as u64;
 
     fn narrowed(number: u64) -> u8 {
-        number as u8
+        (number % (Self::MOST + 1)) as u8
     }
 }
 
@@ -38,7 +37,7 @@ impl Number for u16 {
     const MOST: u64 = u16::MAX as u64;
 
     fn narrowed(number: u64) -> u16 {
-        number as u16
+        (number % (Self::MOST + 1)) as u16
     }
 }
 
@@ -50,7 +49,7 @@ impl Number for u32 {
     const MOST: u64 = u32::MAX as u64;
 
     fn narrowed(number: u64) -> u32 {
-        number as u32
+        (number % (Self::MOST + 1)) as u32
     }
 }
 

@@ -34,10 +34,6 @@ pub tally_from_more : (m k : Meaning) (t : Tally) (l : List ℕ) (ls : List (Lis
 unfolding tally_from
 tally_from_more m k t l ls = refl
 
--- one more share is written
-pub shares_push : (share : ℕ → ℤ) (n : ℕ) (before after : List ℕ) (z : ℤ) → before ≡ shares_text share n → z ≡ share n → after ≡ before ++ (codes " " ++ signed_decimal z) → after ≡ shares_text share (n + 1)
-shares_push share n before after z so same push = let more = shares_text_more share n in cc
-
 -- one line is answered, of those that are left
 module _ (m k : Meaning) (n : ℕ) (line : List ℕ) (rest left all : List (List ℕ)) (split : left ≡ line ∷ rest) where
   pub text_more : (before word after : List ℕ) → before ++ lines_text m k n left ≡ lines_text m k 1 all → word ≡ line_text m k n line → after ≡ before ++ word → after ++ lines_text m k (n + 1) rest ≡ lines_text m k 1 all

@@ -32,6 +32,7 @@ pub struct Answer {
 }
 
 // The kWh of each place by a rule, each after a space, or that the row is unlawful.
+#[tactic(auto, using(crate::proofs::Told::shares_text_none, crate::proofs::Told::shares_text_more))]
 fn figure<R: Rule>(heap: Global, rule: &R, half: &HalfHour) -> Result<String, AllocError>
     ensures { IfOk result (λ s. string_bytes s ≡ figure_text (R.Rule.meaning rule.now) (held half.now)) }
 {
@@ -49,6 +50,7 @@ fn figure<R: Rule>(heap: Global, rule: &R, half: &HalfHour) -> Result<String, Al
 }
 
 // The answer to a half hour: the rule's figure, and the second one where it differs.
+// The heap and both rules stand one by one: the two other functions that take them are public calls, which a struct would say a second time.
 fn answer_half_hour<R: Rule, S: Rule>(
     heap: Global,
     rule: &R,
@@ -125,7 +127,7 @@ pub fn answer_line<R: Rule, S: Rule>(
 }
 
 // How many half hours were split, and how many lines were otherwise.
-#[derive(Clone, Copy, Default)]
+#[derive(Clone, Copy, PartialEq, Eq, Debug, Default)]
 struct Tally {
     split: u64,
     unlawful: u64,
@@ -166,6 +168,7 @@ impl fmt::Display for Tally {
 }
 
 // The answers to all lines of a table, and a line that counts them.
+#[tactic(auto, using(crate::proofs::Told::text_more, crate::proofs::Told::tally_more, crate::proofs::Told::under_more))]
 pub fn answer_table<R: Rule, S: Rule>(
     heap: Global,
     rule: &R,

@@ -21,6 +21,6 @@ begun holder row h r = ap (λ x. blank x row) h ∙ ap (blank no_holder) r
 pub returns : goal.returns
 returns c =
     let intro = c.args.files.schedule.intro in
-    let rs = readings_in c.args.files.readings.records.bytes.now in
+    let rs = readings_in c.args.files.readings.bytes.now in
     let same = ap (λ st. day_sent site_terms st intro.sender intro.day intro.moment c.args.schedule.now rs) (begun c.blank-holders.result c.blank-rows.result c.blank-holders.ensures c.blank-rows.ensures) in
     put_more c.put_answer.result _ _ (c.run_day-answer.ensures ∙ same) c.put_answer.ensures

@@ -6,4 +6,4 @@ use Rattle.dayrun.proofs.put_readings.Given as goal
 
 abbrev pub invariant-loop-reading : goal.invariant-loop-reading
 invariant-loop-reading l =
-    reading_all l.book.terms (kept l.book) l.table (readings_in l.reading-iterator.bytes.now) ≡ reading_all l.book.terms (kept l.book) l.initial.table (readings_in l.fn.file.records.bytes.now)
+    reading_all l.book.terms (kept l.book) l.table (readings_in l.reading-iterator.bytes.now) ≡ reading_all l.book.terms (kept l.book) l.initial.table (readings_in l.fn.file.bytes.now)

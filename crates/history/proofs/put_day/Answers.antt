@@ -1,4 +1,4 @@
-use Rattle.std.proofs.Common.{◌≡◌, ◌+◌, ◌≤◌, List, length, take, refl, ap, ◌∙◌, arith}
+use Rattle.std.proofs.Common.{◌≡◌, ◌+◌, ◌≤◌, List, length, take, ap, ◌∙◌, arith}
 use Rattle.domain.specs.Limits.{periods}
 use Rattle.history.specs.Puts.{put_all, put_day, on_day, holding}
 use Rattle.history.specs.declared.Dated.{Dated}
@@ -7,8 +7,8 @@ use Rattle.history.proofs.Placing.{take-holding, room_for_lem, no_room_for}
 use Rattle.history.proofs.Changes.{after_day}
 use Rattle.history.proofs.put_day.Goals as goal
 
-pub returns-then-needed-entries : goal.returns-then-needed-entries
-returns-then-needed-entries g c =
+pub returns-then-needed-entries-clause-result : goal.returns-then-needed-entries-clause-result
+returns-then-needed-entries-clause-result g c =
     let e = c.args.entries.now in
     let n = c.args.count in
     let d = c.args.day in
@@ -16,11 +16,7 @@ returns-then-needed-entries g c =
     let m = c.min.result in
     let held = c.in_ok-held.ensures in
     let needed = needed_after all m c.min.ensures e c.in_ok-held.held.entries.now n d c.count_none.result c.find_each-at.result held.0 held.1 c.find_each-at.ensures.size c.find_each-at.ensures.each c.count_none.ensures in
-    record {
-      result = no_room_for e (put_day (take n e) d all) c.args.table n (n + c.count_none.result) held.0 (needed ∙ ap (λ (l : List g.row.T.Denot). length (put_all (take n e) (on_day d 1 l))) (day_is all m c.min.ensures)) c.if-needed-entries.true;
-      after = refl;
-      says = refl;
-    }
+    no_room_for e (put_day (take n e) d all) c.args.table n (n + c.count_none.result) held.0 (needed ∙ ap (λ (l : List g.row.T.Denot). length (put_all (take n e) (on_day d 1 l))) (day_is all m c.min.ensures)) c.if-needed-entries.true
 
 pub place_day-requires-clause-room : goal.place_day-requires-clause-room
 place_day-requires-clause-room g c =

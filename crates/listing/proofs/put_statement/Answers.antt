@@ -1,10 +1,11 @@
-use Rattle.std.proofs.Common.{string_bytes}
+use Rattle.std.proofs.Common.{ap, ◌∙◌}
+use Rattle.std.specs.List.{flat_map}
 use Rattle.files.specs.Bytes.{records_in}
 use Rattle.files.specs.Records.{line_size, decoded_line}
-use Rattle.listing.specs.Texts.{line_text}
-use Rattle.listing.proofs.Steps.{lines_whole}
+use Rattle.listing.specs.Texts.{line_text, statement_heading}
+use Rattle.listing.proofs.Steps.{headed}
 use Rattle.listing.proofs.put_statement.Goals as goal
 
-pub returns : goal.returns
-returns c =
-    lines_whole line_text (records_in decoded_line line_size c.loop-line.line-iterator.bytes.now) (string_bytes c.loop-line.text) (string_bytes c.write.new.self) (string_bytes c.args.text.now) _ _ c.loop-line.invariant c.in-None.ensures.steps.0 c.in_ok-write.ensures.bytes
+pub loop-line-init : goal.loop-line-init
+loop-line-init c =
+    headed statement_heading (λ bs. flat_map line_text (records_in decoded_line line_size bs)) _ _ _ _ _ _ c.in_ok-write.ensures.bytes c.len-count.ensures (ap (λ it. it.bytes.now) c.into_iter-line-iterator.ensures.into_iter_gives ∙ c.iter-line-items.ensures.bytes)

@@ -1,4 +1,4 @@
-use Rattle.std.proofs.Common.{◌≡◌, ℕ, ◌+◌, [], ◌∷◌, ◌++◌, length, drop, Err, sym, ap, ◌∙◌, arith, refl}
+use Rattle.std.proofs.Common.{◌≡◌, ℕ, ◌+◌, [], ◌∷◌, ◌++◌, length, drop, Err, sym, ap, ◌∙◌, arith}
 use Rattle.std.proofs.lemmas.List.{length_push}
 use Rattle.domain.specs.declared.Fault.TheVariants.{UnlawfulRow}
 use Rattle.rows.specs.Rows.{allowed}
@@ -6,9 +6,6 @@ use Rattle.history.proofs.Numbered.{pair_turn, pair_end}
 use Rattle.book.specs.Sharing.{rows_allowed}
 use Rattle.book.proofs.Rows.{rows_no, rows_yes, rows_all}
 use Rattle.book.proofs.Book.admit_rows.Goals as goal
-
-pub loop-period-init : goal.loop-period-init
-loop-period-init g c = ((tt, tt), tt, refl)
 
 pub loop-period-preserved : goal.loop-period-preserved
 loop-period-preserved g c =

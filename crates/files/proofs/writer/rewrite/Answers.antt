@@ -3,29 +3,8 @@ use Rattle.domain.specs.declared.Fault.{Fault}
 use Rattle.files.specs.Reads.{Told, told, told_schedule, told_readings, told_statement, read_of}
 use Rattle.files.specs.declared.formats.Kind.TheVariants.{Schedule, Readings, Statement}
 use Rattle.files.specs.Packs.{bytes_typed}
-use Rattle.files.proofs.Agains.{accepted, told_records, again}
+use Rattle.files.proofs.Agains.{again}
 use Rattle.files.proofs.writer.rewrite.Goals as goal
-
-pub write_file-requires : goal.write_file-requires
-write_file-requires c =
-    let bs = c.args.file.now in
-    let t = told_schedule c.in-Schedule.schedule in
-    let e : ◌≡◌ {A = Result Told Fault} (Ok t) (read_of bs) = ap (λ f. Ok (told f)) (sym c.in-Schedule.is) ∙ c.in_ok-schedule.ensures in
-    told_records bs t Schedule (accepted bs t e) refl
-
-pub write_file-requires-in-Readings : goal.write_file-requires-in-Readings
-write_file-requires-in-Readings c =
-    let bs = c.args.file.now in
-    let t = told_readings c.in-Readings.readings in
-    let e : ◌≡◌ {A = Result Told Fault} (Ok t) (read_of bs) = ap (λ f. Ok (told f)) (sym c.in-Readings.is) ∙ c.in_ok-schedule.ensures in
-    told_records bs t Readings (accepted bs t e) refl
-
-pub write_file-requires-in-Statement : goal.write_file-requires-in-Statement
-write_file-requires-in-Statement c =
-    let bs = c.args.file.now in
-    let t = told_statement c.in-Statement.statement in
-    let e : ◌≡◌ {A = Result Told Fault} (Ok t) (read_of bs) = ap (λ f. Ok (told f)) (sym c.in-Statement.is) ∙ c.in_ok-schedule.ensures in
-    told_records bs t Statement (accepted bs t e) refl
 
 pub returns-in-Schedule : goal.returns-in-Schedule
 returns-in-Schedule c =

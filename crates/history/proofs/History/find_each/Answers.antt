@@ -1,6 +1,6 @@
-use Rattle.std.proofs.Common.{◌≡◌, ◌+◌, ◌-◌, ◌≤◌, true, get_or, take, set, Some, None, sym, refl, ap, ◌∙◌, arith}
+use Rattle.std.proofs.Common.{◌≡◌, ◌+◌, ◌-◌, ◌≤◌, true, get_or, set, Some, None, sym, refl, ap, ◌∙◌, arith}
 use Rattle.std.specs.Option.{option_or}
-use Rattle.std.proofs.lemmas.List.{length-set, take_all}
+use Rattle.std.proofs.lemmas.List.{length-set}
 use Rattle.std.proofs.lemmas.Bool.Decides.{nat_tests}
 use Rattle.domain.specs.Limits.{periods}
 use Rattle.history.specs.Entries.{found, of_period}
@@ -24,9 +24,3 @@ loop-index-preserved g c =
     let inv = c.loop-index.invariant.0 in
     let of = sym c.is_of_period.ensures in
     elim c.if-is_of_period.branch [ then-is_of_period w ↦ (let on : of_period d x ≡ true = of ∙ w.if-is_of_period.true in let some : 1 ≤ x.subject = grind (arith, nat_tests) in let few : x.subject ≤ periods = grind (arith, nat_tests) in let j = w.from-k.result - 1 in let at : x.subject ≡ j + 1 = omega (arith, w.from-k.ensures) in let new : c.if-is_of_period.at ≡ set a j (option_or (get_or a j None) (Some i)) = w.at-is ∙ ap (set a j) w.or.ensures in rw new (found_here t i x d within is a inv j at on (omega (arith, c.loop-index.invariant.1)), length-set a j (option_or (get_or a j None) (Some i)) ∙ c.loop-index.invariant.1)) | else-is_of_period w ↦ rw w.at-is (found_passed t i x d within is a inv (of ∙ w.if-is_of_period.false), c.loop-index.invariant.1) ]
-
-pub returns : goal.returns
-returns g c =
-    let t = c.args.self.entries.now in
-    let all : take c.loop-index.index t ≡ t = take_all c.loop-index.index t c.loop-index-test.false in
-    record { each = λ k h. c.loop-index.invariant.0 k h ∙ ap (λ u. found u (k + 1) c.args.day) all; size = c.loop-index.invariant.1 }

@@ -1,39 +1,32 @@
-use Rattle.std.proofs.Common.{◌≡◌, ℕ, ◌-◌, ◌<◌, true, false, length, is_some, sym, refl, ap, ◌∙◌, arith, length-set}
+use Rattle.std.proofs.Common.{◌≡◌, true, false, None, sym, refl, ◌∙◌, rules, tests}
+use Rattle.std.proofs.lemmas.Bool.{cond-true, cond-false}
+use Rattle.std.proofs.lemmas.Iterator.{YieldsList-from_slice}
+use Rattle.std.proofs.lemmas.Iterator.Search.{any_from_yields_List}
 use Rattle.domain.specs.Limits.{periods}
-use Rattle.issuing.specs.InForce.{is_ended, row_of, spoiled_row}
-use Rattle.issuing.proofs.Firsts.{first_none, number_more, number_here, number_none}
-use Rattle.issuing.proofs.Lookups.{number_kept}
+use Rattle.history.proofs.Eaches.{none_at}
+use Rattle.issuing.specs.InForce.{is_ended, spoiled_row}
+use Rattle.issuing.proofs.Lookups.{row_spoiled, rows_split}
 use Rattle.issuing.proofs.Order.rows_of.Goals as goal
 
-pub loop-period-init : goal.loop-period-init
-loop-period-init g c = (first_none _, λ q h. absurd (omega arith), refl)
-
-pub returns-then-is_spoiled_row : goal.returns-then-is_spoiled_row
-returns-then-is_spoiled_row g c =
+pub returns-then-is_ended : goal.returns-then-is_ended
+returns-then-is_ended g c =
     let o = c.args.self in
-    let bad = spoiled_row (g.R.Rule.meaning o.rule.now) o.terms in
-    let f = λ (p : ℕ). row_of c.args.held.entries.now (is_ended o.standing.ended o.day) o.day p in
-    let p = c.loop-period.period in
-    let e : bad (f p) ≡ true = sym (ap bad c.row_of-row.ensures) ∙ sym c.is_spoiled_row.ensures ∙ c.if-is_spoiled_row.true in
-    record { is = refl; found = ap is_some (number_here (λ k. bad (f k)) p c.loop-period.auto.period c.loop-period.invariant.0 periods e c.loop-period-test.true) }
+    let rs = c.args.held.entries.now in
+    let ended : is_ended o.standing.ended o.day ≡ true = sym c.is_ended.ensures ∙ c.if-is_ended.true in
+    rows_split (g.R.Rule.meaning o.rule.now) o.terms rs (is_ended o.standing.ended o.day) o.day _ refl (λ i h. none_at periods i ∙ sym (cond-true (is_ended o.standing.ended o.day) None _ ended)) refl refl
 
-pub loop-period-preserved : goal.loop-period-preserved
-loop-period-preserved g c =
+pub returns-then-any : goal.returns-then-any
+returns-then-any g c =
     let o = c.args.self in
-    let bad = spoiled_row (g.R.Rule.meaning o.rule.now) o.terms in
-    let f = λ (p : ℕ). row_of c.args.held.entries.now (is_ended o.standing.ended o.day) o.day p in
-    let p = c.loop-period.period in
-    let low = c.loop-period.auto.period in
-    let e : bad (f p) ≡ false = sym (ap bad c.row_of-row.ensures) ∙ sym c.is_spoiled_row.ensures ∙ c.if-is_spoiled_row.false in
-    let l : p - 1 < length c.loop-period.rows = omega (arith, c.loop-period-test.true, c.loop-period.invariant.2) in
-    (number_more (λ k. bad (f k)) p low c.loop-period.invariant.0 e, number_kept f c.loop-period.rows p (c.from.result - 1) c.row_of-row.result low (omega (arith, c.from.ensures)) l c.row_of-row.ensures c.loop-period.invariant.1, length-set c.loop-period.rows (c.from.result - 1) c.row_of-row.result ∙ c.loop-period.invariant.2)
+    let rs = c.args.held.entries.now in
+    let ended : is_ended o.standing.ended o.day ≡ false = sym c.is_ended.ensures ∙ c.if-is_ended.false in
+    let spoiled = any_from_yields_List (spoiled_row (g.R.Rule.meaning o.rule.now) o.terms) _ _ c.any.result c.any.ensures.ran (YieldsList-from_slice _ c.iter.ensures.rest) (λ x b q k. search (rules, tests)) in
+    row_spoiled (g.R.Rule.meaning o.rule.now) o.terms rs (is_ended o.standing.ended o.day) o.day c.entries_in_force-rows.result c.entries_in_force-rows.ensures.size (λ i h. c.entries_in_force-rows.ensures.each i h ∙ sym (cond-false (is_ended o.standing.ended o.day) None _ ended)) spoiled c.if-any.true
 
 pub returns : goal.returns
 returns g c =
     let o = c.args.self in
-    let bad = spoiled_row (g.R.Rule.meaning o.rule.now) o.terms in
-    let f = λ (p : ℕ). row_of c.args.held.entries.now (is_ended o.standing.ended o.day) o.day p in
-    record {
-      sound = number_none (λ k. bad (f k)) c.loop-period.period c.loop-period.auto.period c.loop-period.invariant.0 periods (omega arith) (omega arith);
-      each = λ i h. c.loop-period.invariant.1 i (omega arith);
-    }
+    let rs = c.args.held.entries.now in
+    let ended : is_ended o.standing.ended o.day ≡ false = sym c.is_ended.ensures ∙ c.if-is_ended.false in
+    let spoiled = any_from_yields_List (spoiled_row (g.R.Rule.meaning o.rule.now) o.terms) _ _ c.any.result c.any.ensures.ran (YieldsList-from_slice _ c.iter.ensures.rest) (λ x b q k. search (rules, tests)) in
+    rows_split (g.R.Rule.meaning o.rule.now) o.terms rs (is_ended o.standing.ended o.day) o.day c.entries_in_force-rows.result c.entries_in_force-rows.ensures.size (λ i h. c.entries_in_force-rows.ensures.each i h ∙ sym (cond-false (is_ended o.standing.ended o.day) None _ ended)) spoiled c.if-any.false

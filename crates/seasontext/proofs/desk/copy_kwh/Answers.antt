@@ -1,17 +1,8 @@
-use Rattle.std.proofs.Common.{◌≡◌, ◌-◌, get_or, sym, refl, ap, ◌∙◌, arith}
+use Rattle.std.proofs.Common.{get_or, refl, arith}
 use Rattle.domain.specs.Checks.{no_reading}
-use Rattle.seasontext.specs.Runs.{copied}
-use Rattle.seasontext.proofs.Loops.{copied_none, copied_turn, copied_past}
+use Rattle.seasontext.proofs.Loops.{copied_turn, copied_past}
 use Rattle.seasontext.proofs.desk.copy_kwh.Goals as goal
 use Rattle.seasontext.proofs.desk.copy_kwh.Goals.{then-slot-split, else-slot-split}
-
-pub loop-slot-init : goal.loop-slot-init
-loop-slot-init c =
-    let none : c.args.first - c.args.first ≡ 0 = omega arith in
-    record {
-      begun = omega arith;
-      so_far = sym (ap (λ k. copied c.args.readings.now c.args.first k c.args.split.now) none ∙ copied_none c.args.readings.now c.args.first c.args.split.now);
-    }
 
 pub loop-slot-preserved : goal.loop-slot-preserved
 loop-slot-preserved c =

@@ -2,14 +2,8 @@ use Rattle.std.proofs.Common.{◌≡◌, ◌+◌, ◌-◌, get_or, None, string_
 use Rattle.std.proofs.lemmas.Grind.{common_steps}
 use Rattle.domain.specs.Slots.{reading_slot}
 use Rattle.seasontext.specs.Sums.{period_text}
-use Rattle.seasontext.proofs.Totals.{gathered_begin, gathered_next}
+use Rattle.seasontext.proofs.Totals.{gathered_next}
 use Rattle.seasontext.proofs.sums.put_day.Goals as goal
-
-pub loop-period-init : goal.loop-period-init
-loop-period-init c = record {
-  begun = omega arith;
-  so_far = gathered_begin (λ i. period_text c.args.lines.now c.args.day (i + 1) (get_or c.args.split.now (reading_slot c.args.day (i + 1)) None)) (string_bytes c.args.text.now);
-}
 
 pub loop-period-preserved : goal.loop-period-preserved
 loop-period-preserved c =

@@ -1,17 +1,10 @@
-use Rattle.std.proofs.Common.{true, false, get_or, pos, sym, arith, rules}
+use Rattle.std.proofs.Common.{true, false, get_or, pos, arith, rules}
 use Rattle.std.proofs.lemmas.Int.{ints, to_z-of_z}
 use Rattle.std.specs.Fn.{FnReturnsAt}
 use Rattle.domain.specs.Lines.{line_of}
-use Rattle.seasontext.proofs.Totals.{sum_none, sum_picked, sum_left}
+use Rattle.seasontext.proofs.Totals.{sum_picked, sum_left}
 use Rattle.seasontext.proofs.sums.sum_of.Goals as goal
 use Rattle.seasontext.proofs.sums.sum_of.Goals.{then-picks, else-picks}
-
-pub loop-line-init : goal.loop-line-init
-loop-line-init g c = record {
-  low = omega (arith, ints);
-  high = omega (arith, ints);
-  so_far = λ p k. sym (sum_none p);
-}
 
 pub loop-line-preserved : goal.loop-line-preserved
 loop-line-preserved g c =

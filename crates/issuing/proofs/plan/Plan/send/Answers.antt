@@ -1,15 +1,7 @@
-use Rattle.std.proofs.Common.{◌≡◌, ℕ, ◌-◌, length, sym, ap, ◌∙◌, arith}
-use Rattle.issuing.specs.Posted.{posted}
-use Rattle.domain.specs.Limits.{periods}
-use Rattle.issuing.specs.Days.{lines_before, filled_before}
+use Rattle.std.proofs.Common.{◌-◌, length, ap, ◌∙◌, arith}
 use Rattle.issuing.specs.Plans.{planned}
-use Rattle.issuing.proofs.Gathered.{gathered_none, posted_none}
-use Rattle.issuing.proofs.Periods.{days_none, length_days, period_tame, period_room, period_sent}
+use Rattle.issuing.proofs.Periods.{length_days, period_tame, period_room, period_sent}
 use Rattle.issuing.proofs.plan.Plan.send.Goals as goal
-
-pub loop-period-init : goal.loop-period-init
-loop-period-init g c =
-    (simp gathered_none (omega arith), sym (posted_none c.args.journal.now c.args.at) ∙ sym (ap (posted c.args.journal.now c.args.at) (gathered_none _)), sym (days_none _ _ _ c.args.issued.now))
 
 pub send_period-end-requires : goal.send_period-end-requires
 send_period-end-requires g c =
@@ -35,13 +27,3 @@ loop-period-preserved g c =
     let o = c.args.self.now.order in
     let next = planned (g.R.Rule.meaning o.rule.now) c.args.self.now in
     period_sent o.terms next o.day o.run c.args.issued.now c.loop-period.period c.loop-period.auto.period c.args.at c.loop-period.end c.loop-period.issued c.loop-period.invariant.0 c.loop-period.invariant.2 c.args.journal.now c.loop-period.journal c.send_period-end.new.journal c.send_period-end.result c.send_period-end.new.issued (omega (arith, c.requires.room)) c.loop-period.invariant.1 c.send_period-end.ensures.next c.send_period-end.ensures.journal c.send_period-end.ensures.issued
-
-pub returns : goal.returns
-returns g c =
-    let o = c.args.self.now.order in
-    let next = planned (g.R.Rule.meaning o.rule.now) c.args.self.now in
-    let all : c.loop-period.period - 1 ≡ periods = omega arith in
-    record {
-      journal = c.loop-period.invariant.1 ∙ ap (λ (i : ℕ). posted c.args.journal.now c.args.at (lines_before o.terms c.args.issued.now next o.day o.run i)) all;
-      issued = c.loop-period.invariant.2 ∙ ap (λ (i : ℕ). filled_before o.terms.places next o.day i c.args.issued.now) all;
-    }

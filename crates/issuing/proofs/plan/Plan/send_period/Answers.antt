@@ -1,25 +1,9 @@
-use Rattle.std.proofs.Common.{length, sym, ap, ◌∙◌, arith}
-use Rattle.domain.proofs.Within.{issued_within}
-use Rattle.issuing.specs.Posted.{posted}
+use Rattle.std.proofs.Common.{length, arith}
 use Rattle.issuing.specs.Days.{place_lines}
 use Rattle.issuing.specs.Plans.{planned}
-use Rattle.issuing.proofs.Gathered.{gathered_none, filled_none, posted_none, turn_room, turn_end, turn_journal}
+use Rattle.issuing.proofs.Gathered.{turn_room, turn_end, turn_journal}
 use Rattle.issuing.proofs.Periods.{turn_read, turn_lines, turn_slots}
 use Rattle.issuing.proofs.plan.Plan.send_period.Goals as goal
-
-pub loop-place-init : goal.loop-place-init
-loop-place-init g c =
-    (simp gathered_none (omega arith), sym (posted_none c.args.journal.now c.args.at) ∙ sym (ap (posted c.args.journal.now c.args.at) (gathered_none _)), sym (filled_none _ _ c.args.issued.now))
-
-pub slice_copy_out-was : goal.slice_copy_out-was
-slice_copy_out-was g c =
-    let p = c.args.self.now in
-    omega (arith, issued_within p.order.terms.places p.order.terms.days p.order.day c.args.period c.loop-place.place p.day c.requires.ready.low c.requires.ready.high c.loop-place-test.true, c.requires.ready.slots, c.issued_slot-slot.ensures, c.loop-place.auto.issued)
-
-pub bounds-issued-slot : goal.bounds-issued-slot
-bounds-issued-slot g c =
-    let p = c.args.self.now in
-    omega (arith, issued_within p.order.terms.places p.order.terms.days p.order.day c.args.period c.loop-place.place p.day c.requires.ready.low c.requires.ready.high c.loop-place-test.true, c.requires.ready.slots, c.issued_slot-slot.ensures, c.loop-place.auto.issued)
 
 pub send_slot-end-requires : goal.send_slot-end-requires
 send_slot-end-requires g c =

@@ -1,4 +1,0 @@
-use Rattle.recount.proofs.Entry.+peel.Given as goal
-
-abbrev pub decreases-peel : goal.decreases-peel
-decreases-peel l = l.blocks
