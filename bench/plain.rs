@@ -110,6 +110,32 @@ fn in_force<T>(entries: &[Dated<T>], subject: u8, day: u16) -> Option<&T> {
     best.map(|b| &b.entry)
 }
 
+/// Of each half hour the index of its first entry of the day, in one pass.
+fn find_each<T>(entries: &[Dated<T>], day: u16) -> [Option<usize>; PERIODS] {
+    let mut found = [None; PERIODS];
+    for (index, e) in entries.iter().enumerate() {
+        if e.day == day && (1..=PERIODS as u8).contains(&e.subject) {
+            let found = &mut found[e.subject as usize - 1];
+            *found = found.or(Some(index));
+        }
+    }
+    found
+}
+
+/// Of each half hour the entry of the latest day not after the given one, the first among equals, in one pass.
+fn in_force_each<T>(entries: &[Dated<T>], day: u16) -> [Option<&T>; PERIODS] {
+    let mut best: [Option<&Dated<T>>; PERIODS] = [None; PERIODS];
+    for e in entries {
+        if e.day <= day && (1..=PERIODS as u8).contains(&e.subject) {
+            let best = &mut best[e.subject as usize - 1];
+            if best.is_none_or(|b| e.day > b.day) {
+                *best = Some(e);
+            }
+        }
+    }
+    best.map(|best| best.map(|b| &b.entry))
+}
+
 /// Whether the house rule allows the nominations of a book's places.
 fn is_lawful(method: u8, capacity: u32, nominations: &[u32], balance: usize) -> bool {
     match method {
@@ -276,10 +302,7 @@ impl Book {
     }
 
     fn put_rows(&mut self, rows: &mut [Dated<Row>], day: u16, schedule: &[Row]) -> Answer<()> {
-        let mut at = [None; PERIODS];
-        for (i, at) in at.iter_mut().enumerate() {
-            *at = find(&rows[..self.rows], i as u8 + 1, day);
-        }
+        let at = find_each(&rows[..self.rows], day);
         let needed = self.rows + at.iter().filter(|at| at.is_none()).count();
         if needed > rows.len() {
             return refuse(21, needed as u64);
@@ -352,15 +375,12 @@ impl Book {
         if self.rows > rows.len() {
             return refuse(13, 2u8);
         }
-        let mut found = [None; PERIODS];
         if ended {
-            return Ok(found);
+            return Ok([None; PERIODS]);
         }
-        for (i, found) in found.iter_mut().enumerate() {
-            *found = in_force(&rows[..self.rows], i as u8 + 1, day);
-            if found.is_some_and(|row: &Row| !row.is_allowed(self.terms)) {
-                return refuse(13, 2u8);
-            }
+        let found = in_force_each(&rows[..self.rows], day);
+        if found.iter().flatten().any(|row| !row.is_allowed(self.terms)) {
+            return refuse(13, 2u8);
         }
         Ok(found)
     }
