@@ -11,6 +11,7 @@ pub record Kept : Type 0 where
   pub ended : Option ℕ
   pub closed : List Bool
 
+-- what this book keeps
 abbrev pub kept : {R : Type 0} → Book R → Kept
 kept b = record { holders = b.holders; rows = b.rows; lines = b.lines; ended = b.ended; closed = b.closed }
 

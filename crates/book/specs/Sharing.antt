@@ -16,7 +16,7 @@ use Rattle.rows.specs.Rows.{allowed}
 use Rattle.book.specs.Kept.{Kept}
 use Rattle.book.specs.declared.notices.Receipt.{Receipt}
 
--- a call that is accepted answers nothing more
+-- the answer without its value: accepted, or the refusal
 abbrev pub done : {A : Type 0} → Result A Fault → Result Unit Fault
 done (Ok x) = Ok tt
 done (Err f) = Err f

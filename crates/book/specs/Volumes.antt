@@ -16,6 +16,7 @@ directed (negsuc n) = (0, suc n)
 abbrev pub issued_volume : Slot → Option (ℕ × ℕ)
 issued_volume s = cond (s.supplier == 0) None (Some (directed s.volume))
 
+-- the checks of a volume, and the pair
 abbrev pub volume_answer : Terms → List Slot → ℕ → ℕ → ℕ → Result (Option (ℕ × ℕ)) Fault
 volume_answer t issued day period place =
     unless (is_day t day) (ArgumentOutsideLimits 1) (

@@ -1,12 +1,13 @@
 -- What is read of the input: a schedule file, and behind it a readings file.
-use Rattle.std.specs.Prelude.{ℕ, cond, List, take, drop, Ok, Err, Result, ◌==◌, slice_index}
+use Rattle.std.specs.Prelude.{ℕ, List, take, drop, Ok, Result, slice_index}
+use Rattle.std.specs.Option.{ok_or}
 use Rattle.domain.specs.Checks.{and_then}
 use Rattle.domain.specs.declared.Fault.{Fault}
 use Rattle.domain.specs.declared.Fault.TheVariants.{AnotherKind}
 use Rattle.domain.specs.declared.AllocationRow.{AllocationRow}
 use Rattle.files.specs.Bytes.{records_in}
 use Rattle.files.specs.Formats.{kind_of}
-use Rattle.files.specs.Reads.{Told, opened, by_kind}
+use Rattle.files.specs.Reads.{Told, read_kind_of}
 use Rattle.files.specs.Records.{row_size, decoded_row, reading_size, decoded_reading}
 use Rattle.files.specs.declared.records.ReadingRecord.{ReadingRecord}
 
@@ -35,9 +36,11 @@ pub record Files : Type 0 where
 abbrev pub sender_of : Told → ℕ
 sender_of t = slice_index t.numbers 1
 
+-- its day
 abbrev pub day_of : Told → ℕ
 day_of t = slice_index t.numbers 2
 
+-- its moment
 abbrev pub moment_of : Told → ℕ
 moment_of t = slice_index t.numbers 3
 
@@ -45,9 +48,9 @@ moment_of t = slice_index t.numbers 3
 abbrev pub taken : List ℕ → List ℕ
 taken input = take most_input input
 
--- what reading a file of the kind with this number answers: another kind is refused before count and length are judged
+-- what reading a file of the kind that this kind byte names answers
 abbrev pub read_as : ℕ → List ℕ → Result Told Fault
-read_as kind bs = and_then (opened bs) (λ h. cond (h.kind == kind) (by_kind (kind_of kind) h) (Err AnotherKind))
+read_as byte bs = and_then (ok_or (kind_of byte) AnotherKind) (λ kind. read_kind_of kind bs)
 
 -- the two files, or why the first that cannot be read is refused
 unfoldable pub files_read : List ℕ → Result Files Fault

@@ -1,13 +1,13 @@
 // One day of a site with two suppliers: a schedule and its readings in, the lines that are sent out.
 #![tactic(auto)]
 
-ghost use Rattle.std.specs.Prelude.{◌≡◌, ◌++◌, take, IfOk, string_bytes, OnOk};
+ghost use Rattle.std.specs.Prelude.{◌≡◌, [], ◌∷◌, ◌++◌, map, take, IfOk, string_bytes, OnOk};
 ghost use Rattle.std.specs.List.{flat_map};
 ghost use Rattle.files.specs.Reads.{seen_by};
 ghost use Rattle.book.specs.Kept.{kept, opened};
 ghost use Rattle.season.specs.Outcomes.{state_in};
 ghost use Rattle.dayrun.specs.Files.{rows_in, readings_in, files_read};
-ghost use Rattle.dayrun.specs.Calls.{reading_all, day_sent, site_terms, start};
+ghost use Rattle.dayrun.specs.Calls.{run_until, reading_call, day_calls, day_sent, site_terms, start};
 ghost use Rattle.dayrun.specs.Texts.{line_text, refusal_text, answer_text, day_text};
 ghost use Rattle.dayrun.specs.Seen.{files_seen};
 
@@ -16,7 +16,7 @@ use domain::{AllocationRow, Fault, Line, PERIODS, Reading, Run, Slot, Terms};
 use files::{Intro, ReadingRecord, ReadingsFile, ScheduleFile, read_readings, read_schedule};
 use history::Dated;
 use rules::House;
-use season::Tables;
+use season::{Call, Tables, apply};
 use std::alloc::{AllocError, Global};
 
 // The most bytes of input that are read.
@@ -32,9 +32,24 @@ const SITE: Terms = Terms {
     capacity: 1_000,
 };
 
-const FIRST_SUPPLIER: u16 = 101;
+// The calls that register the two suppliers.
+const FIRST_SUPPLIER: Call<'static> = Call::Register {
+    place: 0,
+    day: 0,
+    supplier: 101,
+};
 
-const SECOND_SUPPLIER: u16 = 102;
+const SECOND_SUPPLIER: Call<'static> = Call::Register {
+    place: 1,
+    day: 0,
+    supplier: 102,
+};
+
+// The call that issues the day.
+const ISSUE: Call<'static> = Call::Issue {
+    day: 0,
+    run: Run::Initial as u8,
+};
 
 // A slot for each Settlement Period of the day.
 const PERIOD_SLOTS: usize = PERIODS as usize;
@@ -70,13 +85,31 @@ fn schedule_rows(heap: Global, file: ScheduleFile<'_>) -> Result<Vec<AllocationR
     file.rows.iter().collect(heap)
 }
 
-// Puts the readings of a file, one after the other, up to the first that is refused.
-fn put_readings(
-    book: &Book<House>,
-    table: &mut [Reading],
+// A new book of the site.
+fn open_site() -> Book<House>
+    ensures terms { result.terms ≡ site_terms }
+    ensures keeps { kept result ≡ opened }
+{
+    Book::open(SITE, House)
+}
+
+// Makes a call, and answers only whether it was refused.
+fn make(book: &mut Book<House>, tables: &mut Tables<'_>, call: Call<'_>) -> Result<(), Fault>
+    ensures came { seen_by (λ _. state_in (kept book.new) tables.new) result ≡ run_until book.old.terms (state_in (kept book.old) tables.old) (call.entry ∷ []) }
+    ensures terms { book.new.terms ≡ book.old.terms }
+{
+    apply(book, tables, &call)?;
+    Ok(())
+}
+
+// Reads the readings of a file, one after the other, up to the first that is refused.
+fn make_readings(
+    book: &mut Book<House>,
+    tables: &mut Tables<'_>,
     file: ReadingsFile<'_>,
 ) -> Result<(), Fault>
-    ensures { seen_by (λ _. table.new) result ≡ reading_all book.now.terms (kept book.now) table.old (readings_in file.entry.bytes.now) }
+    ensures came { seen_by (λ _. state_in (kept book.new) tables.new) result ≡ run_until book.old.terms (state_in (kept book.old) tables.old) (map reading_call (readings_in file.entry.bytes.now)) }
+    ensures terms { book.new.terms ≡ book.old.terms }
 {
     for reading in file.iter() {
         let ReadingRecord {
@@ -85,9 +118,42 @@ fn put_readings(
             quality,
             kwh,
         } = reading;
-        book.reading(table, day, period, quality, kwh)?;
+        let call = Call::Reading {
+            day,
+            period,
+            quality,
+            kwh,
+        };
+        make(book, tables, call)?;
     }
     Ok(())
+}
+
+// Makes the calls of the day, up to the first that is refused.
+fn make_calls(
+    book: &mut Book<House>,
+    tables: &mut Tables<'_>,
+    files: DayFiles<'_>,
+    schedule: &[AllocationRow],
+) -> Result<(), Fault>
+    ensures { seen_by (λ _. state_in (kept book.new) tables.new) result ≡ run_until book.old.terms (state_in (kept book.old) tables.old) (day_calls files.entry.schedule.intro.sender files.entry.schedule.intro.day files.entry.schedule.intro.moment schedule.now (readings_in files.entry.readings.bytes.now)) }
+{
+    let Intro {
+        sender,
+        day,
+        moment,
+    } = files.schedule.intro;
+    let agreement = Call::Schedule {
+        sender,
+        day,
+        moment,
+        rows: schedule,
+    };
+    make(book, tables, FIRST_SUPPLIER)?;
+    make(book, tables, SECOND_SUPPLIER)?;
+    make(book, tables, agreement)?;
+    make_readings(book, tables, files.readings)?;
+    make(book, tables, ISSUE)
 }
 
 // Runs the day on a new book and blank tables, and answers how many lines it sent to the journal.
@@ -98,31 +164,9 @@ fn run_day(
 ) -> Result<usize, Fault>
     ensures { seen_by (λ sent. take sent tables.new.journal.now) result ≡ day_sent site_terms (state_in opened tables.old) files.entry.schedule.intro.sender files.entry.schedule.intro.day files.entry.schedule.intro.moment schedule.now (readings_in files.entry.readings.bytes.now) }
 {
-    let Intro {
-        sender,
-        day,
-        moment,
-    } = files.schedule.intro;
-    let holders = &mut *tables.holders;
-    let rows = &mut *tables.rows;
-    let readings = &mut *tables.readings;
-    let issued = &mut *tables.issued;
-    let journal = &mut *tables.journal;
-    let mut book = Book::open(SITE, House);
-    book.register(holders, 0, 0, FIRST_SUPPLIER)?;
-    book.register(holders, 1, 0, SECOND_SUPPLIER)?;
-    let receipt = book.schedule(holders, rows, sender, day, moment, schedule)?;
-    receipt.confirm();
-    put_readings(&book, readings, files.readings)?;
-    book.issue(
-        holders,
-        rows,
-        readings,
-        issued,
-        journal,
-        0,
-        Run::Initial as u8,
-    )
+    let mut book = open_site();
+    make_calls(&mut book, tables, files, schedule)?;
+    Ok(book.lines())
 }
 
 // Adds a refusal to the text. It chooses nothing: it is a function since a refusal is printed in two places.

@@ -3,7 +3,7 @@
 
 #[cfg(test)]
 mod tests {
-    use dayrun::split_day;
+    use dayrun::{MAX_INPUT, split_day};
     use domain::{AllocationRow, PERIODS, Quality};
     use files::{ReadingRecord, write_readings, write_schedule};
     use samples::{SEVENTY, THIRTY};
@@ -83,6 +83,28 @@ mod tests {
         input[1_648 + 8 + 12 * 8 + 2] = 12;
         let text = split_day(rt.alloc(), &input)?;
         assert_eq!(rt; text.as_slice(), b"refused 18 13\n".as_slice());
+        Ok(())
+    }
+
+    // With a reading of 30 in each period 96 lines are sent, which are 1,086 bytes.
+    #[test]
+    fn a_day_of_lines(rt: HostRuntime) -> Result<(), Fail> {
+        let mut input = day(&rt, 1_380, SEVENTY, 30);
+        for period in 0..48 {
+            input[1_648 + 8 + period * 8 + 7] = 30;
+        }
+        let text = split_day(rt.alloc(), &input)?;
+        assert_eq!(rt; text.len(), 1_086);
+        Ok(())
+    }
+
+    // Of a longer input only the first 40,000 bytes are read, so that the readings file has 38,352.
+    #[test]
+    fn too_long_an_input(rt: HostRuntime) -> Result<(), Fail> {
+        let mut input = [0; MAX_INPUT + 1];
+        input[..2_040].copy_from_slice(&day(&rt, 1_380, SEVENTY, 30));
+        let text = split_day(rt.alloc(), &input)?;
+        assert_eq!(rt; text.as_slice(), b"refused 6 38352\n".as_slice());
         Ok(())
     }
 }

@@ -52,7 +52,7 @@ abbrev pub spoiled_slot : Slot → Bool
 spoiled_slot s =
     (int_lt s.volume (neg_ℤ (pos most_kwh)) || int_lt (pos most_kwh) s.volume) || (s.supplier == 0 && not (is_zero s.volume))
 
--- a slot that holds no reading
+-- the empty slot of a reading
 abbrev pub no_reading : Reading
 no_reading = record { quality = 0; kwh = 0 }
 
@@ -64,10 +64,11 @@ no_volume = record { supplier = 0; volume = pos 0 }
 abbrev pub is_quality : ℕ → Bool
 is_quality quality = nat_le 1 quality && nat_le quality 2
 
--- the tables of readings and of what was issued have the sizes that the terms give
+-- the table of readings has the size that the terms give
 abbrev pub readings_fit : Terms → List Reading → Bool
 readings_fit t readings = length readings == reading_slots t.days
 
+-- the table of what was issued has the size that the terms give
 abbrev pub issued_fit : Terms → List Slot → Bool
 issued_fit t issued = length issued == issued_slots t.places t.days
 

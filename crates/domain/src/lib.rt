@@ -6,6 +6,7 @@ ghost use Rattle.domain.specs.Refusals.{refused, number_of_table, number_of_term
 ghost use Rattle.domain.specs.declared.Table.TheVariants.{Readings, Issued};
 ghost use Rattle.domain.specs.declared.Fault.TheVariants.{ArgumentOutsideLimits, AnotherSize};
 ghost use Rattle.domain.specs.Checks.{unless, is_day, is_place, is_period, is_quality, spoiled_reading, spoiled_slot, no_reading, no_volume, readings_fit, issued_fit};
+ghost use Rattle.domain.specs.Limits.{periods, most_kwh, most_capacity, fewest_places, most_places, most_days, nominations_of_row, most_records};
 ghost use Rattle.domain.specs.Slots.{reading_slot, issued_slot, gate, reading_slots, issued_slots};
 ghost use Rattle.domain.specs.Texts.{refusal_text, line_text};
 
@@ -40,6 +41,11 @@ pub const NOMINATIONS: usize = 8;
 
 // The most records of a readings file and of a statement.
 pub const MAX_RECORDS: usize = 4_096;
+
+// The constants above are the limits of the definitions.
+pub fn limits()
+    ensures { (PERIODS ≡ periods) × (MAX_KWH ≡ most_kwh) × (MAX_CAPACITY ≡ most_capacity) × (MIN_PLACES ≡ fewest_places) × (MAX_PLACES ≡ most_places) × (MAX_DAYS ≡ most_days) × (NOMINATIONS ≡ nominations_of_row) × (MAX_RECORDS ≡ most_records) }
+{}
 
 // The slot of a Settlement Period in the table of readings.
 pub fn reading_slot(day: u16, period: u8) -> usize

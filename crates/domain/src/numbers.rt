@@ -9,12 +9,16 @@ pub enum Run {
     Final = 2,
 }
 
+const _: () = prove!(Run::Initial as u8 == 1 && Run::Final as u8 == 2);
+
 // How the energy of a reading was found.
 #[derive(Clone, Copy, PartialEq, Eq, Debug)]
 pub enum Quality {
     Estimated = 1,
     Actual = 2,
 }
+
+const _: () = prove!(Quality::Estimated as u8 == 1 && Quality::Actual as u8 == 2);
 
 // A number that stands for nothing of the kind asked for.
 #[derive(Clone, Copy, PartialEq, Eq, Debug)]

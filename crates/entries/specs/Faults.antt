@@ -1,3 +1,4 @@
+-- What is said of a line that is no half hour.
 use Rattle.std.specs.Prelude.{ℕ, List, codes}
 use Rattle.text.specs.Fields.{word_fault_text}
 use Rattle.entries.specs.declared.Fault.{Fault}

@@ -1,3 +1,4 @@
+-- A half hour, by what it holds.
 use Rattle.std.specs.Prelude.{ℕ, List, vec_items}
 use Rattle.rules.specs.Meaning.{Agreement}
 use Rattle.entries.specs.declared.HalfHour.{HalfHour}

@@ -1,3 +1,4 @@
+-- Which half hour a line says, or the first fault.
 use Rattle.std.specs.Prelude.{◌≡◌, ℕ, List, [], drop, Ok, Err, vec_items, Result, Vec}
 use Rattle.std.specs.declared.alloc.Global.{Global}
 use Rattle.text.specs.Fields.{and_then, most8, most32}

@@ -5,12 +5,13 @@ use Rattle.std.specs.List.{flat_map}
 use Rattle.std.proofs.lemmas.List.{take-append-drop, length-take-le, get_or-drop}
 use Rattle.std.proofs.ByRecursion.{All-take, All-drop, All-get_or}
 use Rattle.std.proofs.lemmas.Bool.Decides.{nat_tests}
+use Rattle.domain.specs.Checks.{and_then}
 use Rattle.domain.specs.declared.Fault.{Fault}
 use Rattle.domain.specs.declared.Fault.TheVariants.{OutputTooShort, CountNotAllowed}
 use Rattle.files.specs.Bytes.{Bytes, word16, number16, unpacked}
 use Rattle.files.specs.Records.{row_size, reading_size, line_size, encoded_row, decoded_row, encoded_reading, decoded_reading, encoded_line, decoded_line, encoded_intro, decoded_intro}
 use Rattle.files.specs.Formats.{kind_number, kind_of, allowed, body_size, file_size, header_of}
-use Rattle.files.specs.Reads.{Head, Told, and_then, seen_by, marked, opened, fitted, by_kind, said, read_of}
+use Rattle.files.specs.Reads.{Head, Told, seen_by, marked, opened, fitted, by_kind, said, read_of}
 use Rattle.files.specs.Contents.{file_of, content_of, rewritten, writing, rewriting, settled}
 use Rattle.files.specs.declared.formats.Kind.{Kind}
 use Rattle.files.specs.declared.formats.Kind.TheVariants.{Schedule, Readings, Statement}

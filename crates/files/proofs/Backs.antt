@@ -3,11 +3,12 @@ use Rattle.std.proofs.Common.{◌≡◌, ℕ, ◌+◌, ◌*◌, ◌/◌, ◌%◌
 use Rattle.std.specs.Prelude.{IfOk, OnOk}
 use Rattle.std.specs.List.{flat_map, AllByRecursion}
 use Rattle.std.proofs.lemmas.Bool.Decides.{nat_tests}
+use Rattle.domain.specs.Checks.{and_then}
 use Rattle.domain.specs.declared.Fault.{Fault}
 use Rattle.files.specs.Bytes.{unpacked}
 use Rattle.files.specs.Records.{encoded_reading, decoded_reading, WholeReading, encoded_line, decoded_line, WholeLine, row_size, encoded_row, decoded_row, WholeRow, encoded_intro, decoded_intro, WholeIntro}
 use Rattle.files.specs.Formats.{kind_number, kind_of, allowed, body_size, file_size, header_of}
-use Rattle.files.specs.Reads.{Head, Told, and_then, seen_by, opened, fitted, by_kind, said, read_of}
+use Rattle.files.specs.Reads.{Head, Told, seen_by, opened, fitted, by_kind, said, read_of}
 use Rattle.files.specs.Contents.{Content, of_schedule, of_readings, of_statement, file_of, content_of, content_read, writing, over, settled}
 use Rattle.files.specs.declared.formats.Kind.{Kind}
 use Rattle.files.specs.declared.formats.Kind.TheVariants.{Schedule, Readings, Statement}

@@ -1,6 +1,7 @@
 -- What a file holds, as records, and the bytes of a file that holds it.
 use Rattle.std.specs.Prelude.{ℕ, cond, List, ◌++◌, length, drop, Ok, Err, Result, ◌==◌, nat_le, slice_index}
 use Rattle.std.specs.List.{flat_map}
+use Rattle.domain.specs.Checks.{and_then}
 use Rattle.domain.specs.declared.Fault.{Fault}
 use Rattle.domain.specs.declared.Fault.TheVariants.{CountNotAllowed, OutputTooShort}
 use Rattle.domain.specs.declared.AllocationRow.{AllocationRow}
@@ -8,7 +9,7 @@ use Rattle.domain.specs.declared.Line.{Line}
 use Rattle.files.specs.Bytes.{word16, word32, unpacked}
 use Rattle.files.specs.Records.{row_size, encoded_row, decoded_row, reading_size, encoded_reading, decoded_reading, line_size, encoded_line, decoded_line}
 use Rattle.files.specs.Formats.{notice_kind, allowed, file_size, header_of}
-use Rattle.files.specs.Reads.{Told, read_of, seen_by, and_then}
+use Rattle.files.specs.Reads.{Told, read_of, seen_by}
 use Rattle.files.specs.declared.formats.Kind.{Kind}
 use Rattle.files.specs.declared.records.ReadingRecord.{ReadingRecord}
 

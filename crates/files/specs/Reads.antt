@@ -1,5 +1,6 @@
 -- What reading a file answers: which kind, which numbers and which record bytes, or which refusal.
 use Rattle.std.specs.Prelude.{ℕ, ◌+◌, ◌/◌, Bool, cond, ◌&&◌, List, [], ◌∷◌, length, take, drop, Some, None, Ok, Err, Option, Result, ◌==◌, nat_lt, slice_index}
+use Rattle.domain.specs.Checks.{and_then}
 use Rattle.domain.specs.declared.Fault.{Fault}
 use Rattle.domain.specs.declared.Line.{Line}
 use Rattle.domain.specs.declared.Fault.TheVariants.{FileTooShort, AnotherMark, AnotherVersion, AnotherKind, CountNotAllowed, AnotherLength}
@@ -29,11 +30,6 @@ pub record Told : Type 0 where
   pub numbers : List ℕ
   pub records : List ℕ
 
--- an answer that goes on where the one before it was no refusal
-abbrev pub and_then : {X Y : Type 0} → Result X Fault → (X → Result Y Fault) → Result Y Fault
-and_then (Ok x) next = next x
-and_then (Err fault) next = Err fault
-
 -- the value of an answer, seen by a function
 abbrev pub seen_by : {X Y : Type 0} → (X → Y) → Result X Fault → Result Y Fault
 seen_by see (Ok x) = Ok (see x)
@@ -59,7 +55,7 @@ told_readings = told_list Readings reading_size
 abbrev pub told_statement : Records Line → Told
 told_statement = told_list Statement line_size
 
--- number and values of each case of a file read
+-- kind byte, numbers and record bytes of a file that was read
 abbrev pub told : File → Told
 told (file.Schedule f) = told_schedule f
 told (file.Readings f) = told_readings f

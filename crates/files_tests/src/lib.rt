@@ -249,6 +249,11 @@ mod tests {
 
     #[test]
     fn printed_refusals(rt: HostRuntime) -> Result<(), Fail> {
+        let empty = listing(rt.alloc(), b"")?;
+        assert_eq!(rt;
+            empty.as_str(),
+            "refused 1 0: the file has fewer bytes than a header\n"
+        );
         let short = listing(rt.alloc(), b"SSM")?;
         assert_eq!(rt;
             short.as_str(),

@@ -1,8 +1,8 @@
 -- What the slots hold after a day is issued: that day's what they are to be, and the others what they held.
-use Rattle.std.proofs.Common.{◌≡◌, ℕ, zero, suc, ◌+◌, ◌*◌, ◌<◌, ◌≤◌, List, ◌++◌, length, get_or, take, drop, sym, refl, ap, ◌∙◌, ⊎_elim, arith, length-append, length-drop}
+use Rattle.std.proofs.Common.{◌≡◌, ℕ, zero, suc, ◌+◌, ◌*◌, ◌<◌, ◌≤◌, List, ◌++◌, length, take, drop, sym, refl, ap, ◌∙◌, ⊎_elim, arith, length-append, length-drop}
 use Rattle.std.proofs.lemmas.List.{append_assoc, take_at, length-take-le}
 use Rattle.std.proofs.lemmas.Nat.{mul-le, mul-add-lt}
-use Rattle.std.proofs.lemmas.Bool.{cases_eq, cases_lt}
+use Rattle.std.proofs.lemmas.Bool.{cases_lt}
 use Rattle.domain.specs.Limits.{periods}
 use Rattle.domain.specs.Slots.{reading_slot, issued_slot, issued_slots}
 use Rattle.domain.specs.Checks.{slot_at, no_volume}
@@ -14,11 +14,11 @@ use Rattle.domain.specs.declared.terms.Terms.{Terms}
 use Rattle.history.specs.declared.Dated.{Dated}
 use Rattle.rules.specs.Meaning.{Meaning}
 use Rattle.issuing.specs.declared.Standing.{Standing}
-use Rattle.issuing.specs.Posted.{posted, filled}
+use Rattle.issuing.specs.Posted.{posted}
 use Rattle.issuing.specs.Days.{filled_before}
 use Rattle.issuing.specs.Issue.{next_slot, issued_after}
-use Rattle.issuing.proofs.Gathered.{get_or-filled, get_or_filled_above, get_or_filled_below}
-use Rattle.issuing.proofs.Periods.{length_days}
+use Rattle.issuing.proofs.Gathered.{get_or_filled_above, get_or_filled_below}
+use Rattle.issuing.proofs.Periods.{length_days, days_here}
 
 -- the journal's front, with the new lines behind it
 pub take-posted : (j : List Line) (at : ℕ) (ls : List Line) → at ≤ length j → take (at + length ls) (posted j at ls) ≡ take at j ++ ls
@@ -33,20 +33,10 @@ length-posted j at ls h =
 
 module _ (t : Terms) (next : ℕ → ℕ → Slot) (day : ℕ) (issued : List Slot) where
   here : day < t.days → length issued ≡ issued_slots t.places t.days → (m : ℕ) → m ≤ periods → (p q : ℕ) → 1 ≤ p → p ≤ m → q < t.places → slot_at t (filled_before t.places next day m issued) day p q ≡ next p q
-  unfolding filled_before
-  here within size zero most p q low high l = absurd (omega arith)
-  here within size (suc i) most p q low high l =
+  here within size m most p q low high l =
       let n = t.places in
-      let r = reading_slot day (i + 1) in
-      let u = filled_before n next day i issued in
-      ⊎_elim
-      (λ (e : p ≡ i + 1).
-      let rows : (r + 1) * n ≤ (t.days * 48) * n = mul-le (r + 1) n (t.days * 48) n (omega arith) (omega arith) in
-      let room : r * n + n ≤ length u = omega (arith, length_days n next day i issued) in
-      ap (λ (x : ℕ). get_or (filled (next (i + 1)) (r * n) n u) (issued_slot n day x q) no_volume) e ∙ get_or-filled (next (i + 1)) (r * n) n u q no_volume l room ∙ sym (ap (λ (x : ℕ). next x q) e))
-      (λ (e : p ≡ i + 1 → ⊥).
-      get_or_filled_below (next (i + 1)) (r * n) n u (issued_slot n day p q) no_volume (omega (arith, mul-add-lt (reading_slot day p) n q r (omega (arith, e)) l)) ∙ here within size i (omega arith) p q low (omega (arith, e)) l)
-      (cases_eq p (i + 1))
+      let rows : reading_slot day (m + 1) * n ≤ (t.days * 48) * n = mul-le (reading_slot day (m + 1)) n (t.days * 48) n (omega arith) (omega arith) in
+      days_here n next day m issued (omega (arith, rows, size)) p q low high l
 
   other : (m : ℕ) → m ≤ periods → (d p q : ℕ) → (d ≡ day → ⊥) → 1 ≤ p → p ≤ periods → q < t.places → slot_at t (filled_before t.places next day m issued) d p q ≡ slot_at t issued d p q
   unfolding filled_before

@@ -1,6 +1,7 @@
 pub mod Sent
 pub mod Gathered
 pub mod Periods
+pub mod Drafts
 pub mod Firsts
 pub mod Passed
 pub mod Lookups
@@ -9,4 +10,3 @@ pub mod Stages
 pub mod Refused
 pub mod Answered
 pub mod After
-pub mod Sound

@@ -1,6 +1,7 @@
 -- The lines and slots of a day, place by place and period by period.
-use Rattle.std.proofs.Common.{◌≡◌, subst, sym, ◌-◌, ℕ, zero, suc, ◌+◌, ◌*◌, ◌<◌, ◌≤◌, List, length, get_or, set, Ok, Option, refl, ap, ◌∙◌, arith, w64, Fits}
-use Rattle.std.proofs.lemmas.Nat.{mul-le}
+use Rattle.std.proofs.Common.{◌≡◌, subst, sym, ◌-◌, ℕ, zero, suc, ◌+◌, ◌*◌, ◌<◌, ◌≤◌, List, length, get_or, set, Ok, Option, refl, ap, ◌∙◌, ⊎_elim, arith, w64, Fits}
+use Rattle.std.proofs.lemmas.Nat.{mul-le, mul-add-lt}
+use Rattle.std.proofs.lemmas.Bool.{cases_eq}
 use Rattle.domain.specs.Slots.{reading_slot, issued_slot}
 use Rattle.domain.specs.Checks.{slot_at, no_volume}
 use Rattle.domain.specs.Limits.{periods}
@@ -12,7 +13,7 @@ use Rattle.rows.specs.Rows.{Tame}
 use Rattle.issuing.specs.Posted.{posted, filled}
 use Rattle.issuing.specs.Slots.{counted}
 use Rattle.issuing.specs.Days.{place_lines, period_lines, lines_before, lines_of, filled_before}
-use Rattle.issuing.proofs.Gathered.{length_gathered_more, gathered_most, gathered_same, filled_more, length-filled, get_or_filled_above, turn_count, turn_room, turn_end, turn_journal}
+use Rattle.issuing.proofs.Gathered.{length_gathered_more, gathered_most, gathered_same, filled_more, length-filled, get_or-filled, get_or_filled_above, get_or_filled_below, turn_count, turn_room, turn_end, turn_journal}
 use Rattle.issuing.proofs.Passed.{count_passed}
 use Rattle.issuing.proofs.Sent.{slot_most}
 
@@ -80,6 +81,30 @@ module _ (n : ℕ) (next : ℕ → ℕ → Slot) (day : ℕ) where
       let f = ap (λ (x : ℕ). reading_slot day x * n) e ∙ base_more n day i in
       get_or_filled_above (next (i + 1)) (reading_slot day (i + 1) * n) n (filled_before n next day i issued) k d (omega (arith, f)) ∙ days_above i issued k d (omega (arith, f))
 
+  -- what the periods before hold is what it is to be
+  pub days_here : (m : ℕ) (issued : List Slot) → reading_slot day (m + 1) * n ≤ length issued → (p q : ℕ) → 1 ≤ p → p ≤ m → q < n → get_or (filled_before n next day m issued) (issued_slot n day p q) no_volume ≡ next p q
+  unfolding filled_before
+  days_here zero issued room p q low high l = absurd (omega arith)
+  days_here (suc i) issued room p q low high l =
+      let r = reading_slot day (i + 1) in
+      let u = filled_before n next day i issued in
+      let e : suc i + 1 ≡ i + 1 + 1 = omega arith in
+      let f = ap (λ (x : ℕ). reading_slot day x * n) e ∙ base_more n day i in
+      let wide : r * n + n ≤ length u = omega (arith, f, room, length_days i issued) in
+      let before : r * n ≤ length issued = omega (arith, f, room) in
+      ⊎_elim
+      (λ (h : p ≡ i + 1). ap (λ (x : ℕ). get_or (filled (next (i + 1)) (r * n) n u) (issued_slot n day x q) no_volume) h ∙ get_or-filled (next (i + 1)) (r * n) n u q no_volume l wide ∙ sym (ap (λ (x : ℕ). next x q) h))
+      (λ (h : p ≡ i + 1 → ⊥).
+      get_or_filled_below (next (i + 1)) (r * n) n u (issued_slot n day p q) no_volume (omega (arith, mul-add-lt (reading_slot day p) n q r (omega (arith, h)) l)) ∙ days_here i issued before p q low (omega (arith, h)) l)
+      (cases_eq p (i + 1))
+
+  -- a period more is filled, counted from 1
+  pub period_filled : (p : ℕ) → 1 ≤ p → (issued u v : List Slot) → u ≡ filled_before n next day (p - 1) issued → v ≡ filled (next p) (reading_slot day p * n) n u → v ≡ filled_before n next day (p + 1 - 1) issued
+  period_filled p low issued u v came filled_now =
+      let again : p ≡ p - 1 + 1 = omega arith in
+      let after : p - 1 + 1 ≡ p + 1 - 1 = omega arith in
+      filled_now ∙ ap (λ (i : ℕ). filled (next i) (reading_slot day i * n) n u) again ∙ ap (filled (next (p - 1 + 1)) (reading_slot day (p - 1 + 1) * n) n) came ∙ days_more (p - 1) issued ∙ ap (λ (i : ℕ). filled_before n next day i issued) after
+
 module _ (t : Terms) (next : ℕ → ℕ → Slot) (day run i : ℕ) (issued u : List Slot) (came : u ≡ filled_before t.places next day i issued) where
   pub later_slot : (q : ℕ) → slot_at t u day (i + 1) q ≡ slot_at t issued day (i + 1) q
   later_slot q =
@@ -134,6 +159,6 @@ module _ (t : Terms) (next : ℕ → ℕ → Slot) (day run : ℕ) (issued : Lis
 
     pub period_sent : (j k m : List Line) (r : ℕ) (v : List Slot) → at ≤ length j → k ≡ posted j at (lines_before t issued next day run (p - 1)) → r ≡ end + length sent_now → m ≡ posted k end sent_now → v ≡ filled (next p) (reading_slot day p * t.places) t.places u → (r ≡ at + length (lines_before t issued next day run (p + 1 - 1))) × (m ≡ posted j at (lines_before t issued next day run (p + 1 - 1))) × (v ≡ filled_before t.places next day (p + 1 - 1) issued)
     period_sent j k m r v within before more sent filled_now =
-        let P : ℕ → Type 0 = λ i. (r ≡ at + length (lines_before t issued next day run i)) × (m ≡ posted j at (lines_before t issued next day run i)) × (v ≡ filled_before t.places next day i issued) in
-        let slots = filled_now ∙ ap (λ (i : ℕ). filled (next i) (reading_slot day i * t.places) t.places u) again ∙ ap (filled (next (p - 1 + 1)) (reading_slot day (p - 1 + 1) * t.places) t.places) came ∙ days_more t.places next day (p - 1) issued in
-        subst P after (turn_end lines (p - 1) at end r sent_now sent_is ended more, turn_journal lines (p - 1) at end sent_now j k m within sent_is ended before sent, slots)
+        let P : ℕ → Type 0 = λ i. (r ≡ at + length (lines_before t issued next day run i)) × (m ≡ posted j at (lines_before t issued next day run i)) in
+        let lined = subst P after (turn_end lines (p - 1) at end r sent_now sent_is ended more, turn_journal lines (p - 1) at end sent_now j k m within sent_is ended before sent) in
+        (lined.0, lined.1, period_filled t.places next day p low issued u v came filled_now)

@@ -36,3 +36,12 @@ pub record ReadyIn {R : Type 0} (p : Plan R) (issued : List Slot) (period : ℕ)
   pub low : 1 ≤ period
   pub high : period ≤ periods
   pub tame : TamePeriod p.order.terms issued p.order.day period
+
+-- a draft has the slots of a period as they are to be
+abbrev pub DraftedIn : {R : Type 0} → Meaning → Plan R → List Slot → ℕ → Type 0
+DraftedIn m p draft period =
+    (q : ℕ) → q < p.order.terms.places → slot_at p.order.terms draft 0 period q ≡ planned m p period q
+
+-- the same for each period of the day
+abbrev pub Drafted : {R : Type 0} → Meaning → Plan R → List Slot → Type 0
+Drafted m p draft = (period : ℕ) → 1 ≤ period → period ≤ periods → DraftedIn m p draft period

@@ -11,7 +11,7 @@ use Rattle.domain.specs.declared.Fault.TheVariants.{Spoiled}
 use Rattle.domain.specs.declared.terms.Terms.{Terms}
 use Rattle.issuing.specs.First.{first_where, unless_found}
 
--- a slot that holds no reading
+-- whether a slot holds no reading
 abbrev pub is_empty : Reading → Bool
 is_empty r = r.quality == 0
 

@@ -1,4 +1,4 @@
-// What a day's slots must hold before anything is sent.
+// What a day's readings and holders must be before anything is sent.
 ghost use Rattle.std.specs.Prelude.{◌≡◌, ℕ, ◌+◌, ◌<◌, not, ◌&&◌, length, is_some, None, Ok, slice_index_or};
 ghost use Rattle.domain.specs.Limits.{periods};
 ghost use Rattle.domain.specs.Checks.{no_reading, reading_at, spoiled_reading};

@@ -11,7 +11,7 @@ use domain::{AllocationRow, Fault, Line, Reading, Run, Slot, Table, Terms, admit
 use history::Dated;
 use plan::Plan;
 use rules::Rule;
-use sheet::Sheet;
+use sheet::{HALF_HOURS, PLACES, Sheet};
 
 mod checks;
 mod lines;
@@ -88,7 +88,8 @@ impl<R: Rule> Order<'_, R> {
         };
         plan.sound_readings()?;
         // the lines are counted before any is sent, so that a refused issue writes nothing
-        let new = plan.count(issued)?;
+        let mut draft = [Slot::NONE; HALF_HOURS * PLACES];
+        let new = plan.draft(issued, &mut draft)?;
         self.admit_day(room)?;
         plan.complete_readings()?;
         complete_holders(self.terms, &sheet.holders, self.is_ended())?;
@@ -96,7 +97,7 @@ impl<R: Rule> Order<'_, R> {
         if new > room - sent {
             return Err(Fault::JournalTooShort { needed: sent + new });
         }
-        plan.send(issued, journal, sent);
+        plan.send(&draft, issued, journal, sent);
         Ok(new)
     }
 }

@@ -8,7 +8,6 @@ use book::Book;
 use domain::{AllocationRow, Fault, PERIODS, Quality, Reading, Slot, Terms};
 use history::Dated;
 use rules::House;
-use samples::SEVENTY;
 use std::io;
 use text::Hex;
 
@@ -16,6 +15,13 @@ use text::Hex;
 const PLACES: usize = 2;
 
 const HALF_HOURS: usize = 3 * PERIODS as usize;
+
+// Place 0 has 70% of the energy, and place 1 the rest.
+const SEVENTY: AllocationRow = AllocationRow {
+    method: 1,
+    balance: 1,
+    nominations: [7_000, 0, 0, 0, 0, 0, 0, 0],
+};
 
 fn answered(rt: &impl Print, answer: Result<(), Fault>) -> io::Result<()> {
     match answer {

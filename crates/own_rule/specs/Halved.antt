@@ -1,3 +1,4 @@
+-- The laws of two places that share half and half.
 use Rattle.std.specs.Prelude.{ℕ, zero, suc, ◌<◌, pos, slice_index_or}
 use Rattle.std.proofs.Common.{ap, arith}
 use Rattle.std.proofs.lemmas.Int.{ints}

@@ -1,3 +1,4 @@
+-- Two places that share half and half.
 use Rattle.std.specs.Prelude.{◌-◌, ◌/◌, ◌&&◌, [], ◌∷◌, length, pos, ◌==◌}
 use Rattle.rules.specs.Meaning.{Meaning}
 

@@ -1,3 +1,4 @@
+-- The second calculation's way to a row's rule: first blocks are peeled off the front.
 use Rattle.std.specs.Prelude.{◌≡◌, true, false, Some, None, Option}
 use Rattle.rules.specs.Meaning.{Agreement, Meaning}
 use Rattle.rules.specs.Agreed.{agreed}

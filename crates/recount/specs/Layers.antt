@@ -1,3 +1,4 @@
+-- A number of first blocks on a rule.
 use Rattle.std.specs.Prelude.{ℕ, zero, suc, cond, ℤ, pos, Some, None, Option, slice_index_or}
 use Rattle.rules.specs.Meaning.{Agreement, Meaning}
 use Rattle.rules.specs.First.{first_block}

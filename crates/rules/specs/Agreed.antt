@@ -1,3 +1,4 @@
+-- A row of the code, as what the parties agreed.
 use Rattle.rules.specs.Meaning.{Agreement}
 use Rattle.rules.specs.declared.Row.{Row}
 

@@ -17,6 +17,7 @@ abbrev pub is_blocks : ℕ → ℕ → Agreement → Bool
 is_blocks least most t =
     nat_le least (length t.nominations) && (nat_le (length t.nominations) most && (nat_lt t.balance (length t.nominations) && (slice_index t.nominations t.balance == 0 && (modest t.nominations && nat_le (sum t.nominations) t.capacity))))
 
+-- the rule of fixed blocks with from `least` to `most` places
 abbrev pub blocks : ℕ → ℕ → Meaning
 blocks least most = record { lawful = is_blocks least most; shares = λ t p e. block_shares t e }
 

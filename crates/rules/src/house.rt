@@ -22,7 +22,7 @@ enum Method {
 impl TryFrom<u8> for Method {
     type Error = UnknownNumber;
 
-    ghost try_from_gives = { λ number r. MatchResult r (λ m. number_of_method m ≡ number) (λ e. (nat_le 1 number && nat_le number 7) ≡ false) };
+    ghost try_from_gives = { λ number r. MatchResult r (λ m. number_of_method m ≡ number) (λ e. (e.number ≡ number) × ((nat_le 1 number && nat_le number 7) ≡ false)) };
 
     fn try_from(number: u8) -> Result<Self, UnknownNumber> {
         match number {

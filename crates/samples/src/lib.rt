@@ -1,4 +1,4 @@
-// What tests and first looks have in common: the sizes of a small book, records for its tables, a refusal as its number and spot, and which of two refusals comes first.
+// What tests have in common: the sizes of a small book, records for its tables, a refusal as its number and spot, and which of two refusals comes first.
 #![tactic(auto)]
 
 ghost use Rattle.std.specs.Prelude.{◌≡◌, ◌++◌, ◌∷◌, map, IfOk, OnOk, option_map};

@@ -1,4 +1,4 @@
-// Runs the three sample seasons, each as it is printed and then quietly.
+// Runs the sample seasons, each as it is printed and then quietly.
 #![tactic(auto)]
 
 use seasontext::season_text;
@@ -17,5 +17,9 @@ fn show(rt: &HostRuntime, path: &str) -> anyhow::Result<()> {
 fn main(rt: HostRuntime) -> anyhow::Result<()> {
     show(&rt, "percentage.txt")?;
     show(&rt, "block.txt")?;
-    show(&rt, "refusals.txt")
+    show(&rt, "refusals.txt")?;
+    show(&rt, "termless.txt")?;
+    show(&rt, "badterms.txt")?;
+    show(&rt, "empty.txt")?;
+    show(&rt, "roomless.txt")
 }

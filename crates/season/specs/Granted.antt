@@ -30,7 +30,7 @@ Granted t m b (Reading day period quality kwh) accepted = Unit {0}
 Granted t m b (End sender day moment) accepted = Unit {0}
 Granted t m b (Issue day run) accepted = accepted ≡ true → (period : ℕ) → is_period period ≡ true → Ready t m b day period
 
--- so is each of some calls, at the plain book before it
+-- each issue among the calls that was accepted found its day ready, in the plain book as it was then
 abbrev pub AllGranted : Terms → Meaning → Plain → List (Call × Bool) → Type 0
 AllGranted t m b [] = Unit {0}
 AllGranted t m b (step ∷ steps) =

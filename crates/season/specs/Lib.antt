@@ -7,3 +7,4 @@ pub mod Outcomes
 pub mod Lent
 pub mod Replays
 pub mod Worked
+pub mod Blanks

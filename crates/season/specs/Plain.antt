@@ -27,6 +27,7 @@ pub record Written : Type 0 where
   -- each place's share
   pub share : ℕ → ℤ
 
+-- what the plain book knows
 pub record Plain : Type 0 where
   -- the supplier registered at a place for a day
   pub registered : ℕ → ℕ → Option ℕ

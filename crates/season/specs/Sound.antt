@@ -9,6 +9,7 @@ unfoldable pub sum_below : (ℕ → ℤ) → ℕ → ℤ
 sum_below f zero = pos 0
 sum_below f (suc n) = sum_below f n +ℤ f n
 
+-- what was written down for a period is a proper split
 pub record Sound (t : Terms) (w : Written) : Type 0 where
   -- the places' shares add up to the kWh
   pub total : sum_below w.share t.places ≡ pos w.kwh

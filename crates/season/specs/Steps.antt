@@ -35,9 +35,11 @@ module _ (t : Terms) (m : Meaning) where
   abbrev pub scheduled : State → ℕ → ℕ → ℕ → List AllocationRow → Result ℕ Fault
   scheduled st sender day moment rows = schedule_room m t st.kept st.holders st.rows sender day moment rows
 
+  -- a reading
   abbrev pub read : State → ℕ → ℕ → ℕ → ℕ → Result Unit Fault
   read st day period quality kwh = reading_answer t st.kept st.readings day period quality kwh
 
+  -- an end
   abbrev pub ended : State → ℕ → ℕ → ℕ → Result Unit Fault
   ended st sender day moment = end_answer t st.kept st.holders sender day moment
 

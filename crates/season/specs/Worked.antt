@@ -13,6 +13,7 @@ slot_for supplier volume = record { supplier = supplier; volume = volume }
 abbrev pub line13 : ℕ → ℕ → ℤ → Line
 line13 place supplier volume = line_of 0 1 13 place supplier volume
 
+-- all that was worked by hand: the half hours, and the lines of an issue that corrects an earlier one
 pub record WorkedExamples : Type 0 where
   pub half_hours : WorkedHalfHours
   -- 21 and 9 were issued, and then 20 kWh are read, which split into 14 and 6: lines of -7 and -3

@@ -1,8 +1,13 @@
 // Runs the season on standard input, and prints what comes of its calls. With `--quiet` it prints only refusals, lines that are no call, and the two tables.
 #![tactic(auto)]
 
+ghost use Rattle.std.specs.Prelude.{IfSome, OnOk};
+ghost use Rattle.std.specs.Io.KnownBytes.{Appends};
+ghost use Rattle.seasontext.specs.Seasons.{season_text};
+
 use anyhow::anyhow;
 use seasontext::season_text;
+use std::alloc::Global;
 use std::env;
 use std::io::{Read, Write};
 
@@ -18,15 +23,23 @@ fn is_quiet(rt: &HostRuntime) -> anyhow::Result<bool> {
     Ok(quiet)
 }
 
-fn run(rt: &HostRuntime) -> anyhow::Result<()> {
-    let quiet = is_quiet(rt)?;
-    let mut input = Vec::new(rt.alloc());
-    rt.stdin().read_to_end(&mut input)?;
-    let text = season_text(rt.alloc(), input.as_slice(), quiet)?;
-    rt.stdout().write_all(text.as_slice())?;
+// Reads a season to its end, and writes what is printed of it.
+fn run<R: Read, W: Write>(
+    heap: Global,
+    quiet: bool,
+    input: &mut R,
+    output: &mut W,
+) -> anyhow::Result<()>
+    ensures { OnOk result (IfSome (R.remaining input.old) (λ season. Appends (W.contents output.old) (W.contents output.new) (season_text quiet season))) }
+{
+    let mut season = Vec::new(heap);
+    input.read_to_end(&mut season)?;
+    let text = season_text(heap, season.as_slice(), quiet)?;
+    output.write_all(text.as_slice())?;
     Ok(())
 }
 
 fn main(rt: HostRuntime) -> anyhow::Result<()> {
-    run(&rt)
+    let quiet = is_quiet(&rt)?;
+    run(rt.alloc(), quiet, &mut rt.stdin(), &mut rt.stdout())
 }

@@ -1,3 +1,4 @@
+-- What is said of a line of a season that is no call.
 use Rattle.std.specs.Prelude.{ℕ, List, codes}
 use Rattle.text.specs.Fields.{word_fault_text}
 use Rattle.seasonlines.specs.declared.Slip.{Slip}

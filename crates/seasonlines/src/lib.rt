@@ -8,7 +8,7 @@ ghost use Rattle.seasonlines.specs.declared.Slip.TheVariants.{Word};
 ghost use Rattle.seasonlines.specs.Slips.{slip_text};
 ghost use Rattle.seasonlines.specs.Entries.{entry_of, said_of};
 
-use domain::AllocationRow;
+use domain::{AllocationRow, PERIODS};
 use std::fmt;
 use text::{WordFault, Words, before_comment};
 
@@ -21,7 +21,7 @@ pub use figures::Figures;
 use verbs::Verb;
 
 // The figures that a line of readings may have: one for each Settlement Period of a day.
-pub const MAX_FIGURES: usize = 48;
+pub const MAX_FIGURES: usize = PERIODS as usize;
 
 // What a line of a season says.
 #[derive(Clone, Copy, Debug, PartialEq, Eq)]

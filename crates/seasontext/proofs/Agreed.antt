@@ -37,7 +37,8 @@ use Rattle.seasonlines.specs.declared.Faulty.TheVariants as faulty
 use Rattle.seasonlines.specs.declared.Slip.{Slip}
 use Rattle.seasonlines.specs.declared.Slip.TheVariants.{TablesLate}
 use Rattle.seasontext.specs.declared.desk.Draft.{Draft}
-use Rattle.seasontext.specs.Runs.{Run, slipped, answered, told, stepped, came_of, called, noted, issued_day, volume_asked, statement_asked, read_all, lent, closed_by, closed, drafted, row_put, row_faulty, tables_of, tables_put, within, asked, entered, line_done, with_draft}
+use Rattle.season.specs.Lent.{lent}
+use Rattle.seasontext.specs.Runs.{Run, slipped, answered, told, stepped, came_of, called, noted, issued_day, volume_asked, statement_asked, read_all, closed_by, closed, drafted, row_put, row_faulty, tables_of, tables_put, within, asked, entered, line_done, with_draft}
 use Rattle.seasontext.specs.Seasons.{start_of, run_lines, entry_in}
 use Rattle.seasontext.specs.Sums.{agree_text}
 use Rattle.seasontext.specs.Agreeing.{SeasonsAgree}

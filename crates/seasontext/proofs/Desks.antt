@@ -4,7 +4,8 @@ use Rattle.seasontext.specs.declared.desk.Draft.{Draft}
 use Rattle.domain.specs.declared.AllocationRow.{AllocationRow}
 use Rattle.history.specs.declared.Dated.{Dated}
 use Rattle.season.specs.declared.Call.TheVariants.{Schedule}
-use Rattle.seasontext.specs.Runs.{Run, stepped, came_of, called, lent, closed_by, with_draft}
+use Rattle.season.specs.Lent.{lent}
+use Rattle.seasontext.specs.Runs.{Run, stepped, came_of, called, closed_by, with_draft}
 
 -- a draft that was taken is called
 pub close_some : (draft left : Option Draft) (d : Draft) (s s' : Run) (r : Bor (List AllocationRow)) → draft ≡ Some d → left ≡ None → r.now ≡ d.rows → s' ≡ called (Schedule d.intro.sender d.intro.day d.intro.moment r) (with_draft left s) → s' ≡ closed_by draft s

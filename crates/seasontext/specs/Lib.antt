@@ -1,5 +1,4 @@
 pub mod Texts
-pub mod Blanks
 pub mod Runs
 pub mod Seen
 pub mod Sums

@@ -1,6 +1,5 @@
 -- What a line of a season does: to the book, to its tables, and to what has been printed.
 use Rattle.std.specs.Prelude.{ℕ, zero, suc, ◌+◌, ◌-◌, ◌*◌, Bool, true, false, cond, not, ◌&&◌, List, ◌++◌, length, replicate, is_ok, Some, None, Ok, Err, Option, Result, ◌==◌, slice_index, slice_index_or, slice_set}
-use Rattle.std.specs.Borrow.{Bor}
 use Rattle.domain.specs.Checks.{no_reading}
 use Rattle.domain.specs.Limits.{periods}
 use Rattle.domain.specs.Slots.{slots_of_day}
@@ -13,6 +12,7 @@ use Rattle.files.specs.Formats.{most_bytes}
 use Rattle.files.specs.declared.records.Intro.{Intro}
 use Rattle.book.specs.Statements.{lines_from, statement_answer}
 use Rattle.book.specs.Volumes.{volume_answer}
+use Rattle.season.specs.Lent.{lent}
 use Rattle.season.specs.Outcomes.{outcome, state_of}
 use Rattle.season.specs.Steps.{State, step}
 use Rattle.season.specs.declared.Call.{Call}
@@ -29,7 +29,7 @@ use Rattle.seasonlines.specs.declared.Faulty.{Faulty}
 use Rattle.seasonlines.specs.declared.Faulty.TheVariants as faulty
 use Rattle.seasonlines.specs.declared.Slip.{Slip}
 use Rattle.seasonlines.specs.declared.Slip.TheVariants.{RowOutside, TermsAgain, TablesLate}
-use Rattle.seasontext.specs.Blanks.{no_holder, no_row, no_dated_row, no_line}
+use Rattle.season.specs.Blanks.{no_holder, no_row, no_dated_row, no_line}
 use Rattle.seasontext.specs.Texts.{outcome_text, volume_text, statement_text, slip_line, spoken}
 use Rattle.seasontext.specs.declared.desk.Draft.{Draft}
 
@@ -51,6 +51,7 @@ pub record Run : Type 0 where
   -- what has been printed
   pub text : List ℕ
 
+-- a run with these parts
 abbrev pub run_of : Terms → Bool → State → List (Option ℕ) → ℕ → Bool → Option Draft → List ℕ → Run
 run_of terms quiet state split calls sized draft text =
     record { terms = terms; quiet = quiet; state = state; split = split; calls = calls; sized = sized; draft = draft; text = text }
@@ -136,15 +137,12 @@ read_all day quality figures zero s = s
 read_all day quality figures (suc n) s =
     called (call.Reading day (suc n) quality (slice_index figures n)) (read_all day quality figures n s)
 
--- a list as one that is lent
-abbrev pub lent : List AllocationRow → Bor (List AllocationRow)
-lent rows = record { ref_ptr = (0, 0); now = rows }
-
--- the open schedule is called
+-- this schedule, if there is one, is called
 unfoldable pub closed_by : Option Draft → Run → Run
 closed_by None s = s
 closed_by (Some d) s = called (call.Schedule d.intro.sender d.intro.day d.intro.moment (lent d.rows)) (with_draft None s)
 
+-- the open schedule, if there is one, is called
 abbrev pub closed : Run → Run
 closed s = closed_by s.draft s
 

@@ -19,7 +19,7 @@ use Rattle.seasonlines.specs.declared.Faulty.{Faulty}
 use Rattle.seasonlines.specs.declared.Faulty.TheVariants as faulty
 use Rattle.seasonlines.specs.declared.Slip.TheVariants.{RowOutside, BeforeTerms}
 use Rattle.seasonlines.specs.declared.Slip.{Slip}
-use Rattle.seasontext.specs.Blanks.{no_holder, no_dated_row, no_line}
+use Rattle.season.specs.Blanks.{no_holder, no_dated_row, no_line}
 use Rattle.seasontext.specs.Runs.{Run, run_of, closed, line_done}
 use Rattle.seasontext.specs.Sums.{tables_text}
 use Rattle.seasontext.specs.Texts.{slip_line}
@@ -40,6 +40,14 @@ lines_sent s = take s.state.kept.lines s.state.journal
 -- all that is printed, once the last line was read: an open schedule is called, and the tables come
 unfoldable pub ended : Run → List ℕ
 ended s = (closed s).text ++ tables_text (lines_sent (closed s)) (closed s).split
+
+-- entries of the table of holders, where a season does not say otherwise
+abbrev pub usual_holders : ℕ
+usual_holders = 512
+
+-- lines of the journal, where a season does not say otherwise
+abbrev pub usual_journal : ℕ
+usual_journal = 65536
 
 -- a book that is opened, with blank tables: so many holders, so many lines of the journal, and the rest by the terms
 unfoldable pub start_of : ℕ → ℕ → Terms → Bool → List ℕ → Run
@@ -67,8 +75,9 @@ terms_refused fault = codes "terms " ++ (refusal_text fault ++ codes "\n")
 unfoldable pub opened_by : Option Fault → Bool → ℕ → List ℕ → ℕ → ℕ → ℕ → List (List ℕ) → List ℕ
 opened_by (Some fault) quiet number text places days capacity lines = text ++ terms_refused fault
 opened_by None quiet number text places days capacity lines =
-    ended (run_lines number (start_of 512 65536 (terms_of places days capacity) quiet text) lines)
+    ended (run_lines number (start_of usual_holders usual_journal (terms_of places days capacity) quiet text) lines)
 
+-- the same, of terms with these numbers
 abbrev pub opened_at : Bool → ℕ → List ℕ → ℕ → ℕ → ℕ → List (List ℕ) → List ℕ
 opened_at quiet number text places days capacity lines =
     opened_by (terms_fault places days capacity) quiet number text places days capacity lines
@@ -89,6 +98,7 @@ abbrev pub slip_text_if : ℕ → Option Slip → List ℕ
 slip_text_if number None = []
 slip_text_if number (Some slip) = slip_line number slip
 
+-- what is printed of the line `number` before terms were given
 abbrev pub before_text : ℕ → Result (Option Entry) Faulty → List ℕ
 before_text number said = slip_text_if number (slip_before said)
 

@@ -8,7 +8,7 @@ use Rattle.domain.specs.Slots.{reading_slot}
 use Rattle.domain.specs.declared.Line.{Line}
 use Rattle.season.specs.Law.{sum_of, of_period}
 
--- numbers that a supplier may have
+-- every supplier's number is below this
 abbrev pub suppliers : ℕ
 suppliers = 65536
 
@@ -56,10 +56,11 @@ supplier_text lines supplier =
 abbrev pub supplier_table : List Line → List ℕ
 supplier_table lines = gathered (λ supplier. cond (sent_to supplier lines) (supplier_text lines supplier) []) suppliers
 
--- what the two tables begin with
+-- what the first table begins with
 abbrev pub first_heading : List ℕ
 first_heading = codes "\nDAY PERIOD KWH LINES\n"
 
+-- what the second table begins with
 abbrev pub second_heading : List ℕ
 second_heading = codes "\nSUPPLIER KWH\n"
 

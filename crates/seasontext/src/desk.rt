@@ -1,5 +1,5 @@
 // The desk at which a season is run: its book and tables, and what has been printed.
-ghost use Rattle.std.specs.Prelude.{◌≡◌, ◌+◌, ◌-◌, ◌^◌, ◌<◌, ◌≤◌, not, ◌&&◌, is_ok, IfOk, if◌then◌else◌, Some, OnOk, ◌==◌, length, slice_index_or};
+ghost use Rattle.std.specs.Prelude.{◌≡◌, ◌+◌, ◌-◌, ◌^◌, ◌<◌, ◌≤◌, true, not, ◌&&◌, is_ok, IfOk, if◌then◌else◌, Some, OnOk, ◌==◌, length, slice_index_or};
 ghost use Rattle.rules.specs.House.{house};
 ghost use Rattle.domain.specs.Checks.{no_reading};
 ghost use Rattle.domain.specs.Limits.{periods};
@@ -28,7 +28,7 @@ pub(crate) type Said = Result<Option<Entry>, Faulty>;
 #[derive(Clone, Copy, Debug, PartialEq, Eq)]
 pub(crate) struct Draft {
     pub(crate) intro: Intro,
-    pub(crate) rows: [AllocationRow; 48],
+    pub(crate) rows: [AllocationRow; PERIODS as usize],
 }
 
 #[derive(Drop)]
@@ -72,7 +72,8 @@ impl Desk {
     // Counts a call, and answers its number. A count past 64 bits, which no input reaches, is told as want of memory: a bound on it would have to stand in the contract of each function that calls, up to the season.
     #[tactic(auto, unfolding(crate::specs::Seen::seen))]
     fn count(&mut self) -> Result<u64, AllocError>
-        ensures { IfOk result (λ n. (n ≡ self.old.calls + 1) × (seen self.new ≡ counted (seen self.old))) }
+        ensures counted { IfOk result (λ n. (n ≡ self.old.calls + 1) × (seen self.new ≡ counted (seen self.old))) }
+        ensures fits { self.old.calls + 1 < 2 ^ 64 → is_ok result ≡ true }
     {
         let number = self.calls.checked_add(1).ok_or(AllocError)?;
         self.calls = number;
@@ -226,7 +227,7 @@ impl Desk {
     {
         self.draft = Some(Draft {
             intro,
-            rows: [AllocationRow::NONE; 48],
+            rows: [AllocationRow::NONE; PERIODS as usize],
         });
     }
 

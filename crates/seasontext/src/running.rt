@@ -2,7 +2,7 @@
 ghost use Rattle.std.specs.Prelude.{◌≡◌, replicate, IfOk, None, string_bytes, OnOk};
 ghost use Rattle.text.specs.Left.{lines_left};
 ghost use Rattle.seasontext.specs.Openings.{HasNumbers};
-ghost use Rattle.seasontext.specs.Seasons.{start_of, run_lines, ended};
+ghost use Rattle.seasontext.specs.Seasons.{usual_holders, usual_journal, start_of, run_lines, ended};
 ghost use Rattle.seasontext.specs.Seen.{seen};
 
 use crate::desk::Desk;
@@ -34,7 +34,7 @@ impl Desk {
         quiet: bool,
         text: String,
     ) -> Result<Desk, AllocError>
-        ensures { IfOk result (λ d. seen d ≡ start_of 512 65536 terms quiet (string_bytes text)) }
+        ensures { IfOk result (λ d. seen d ≡ start_of usual_holders usual_journal terms quiet (string_bytes text)) }
     {
         let slots = reading_slots(terms.days);
         let issued = issued_slots(terms.places, terms.days);

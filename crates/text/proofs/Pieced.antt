@@ -1,4 +1,4 @@
-use Rattle.std.proofs.Common.{◌≡◌, ℕ, suc, ◌+◌, ◌-◌, ◌<◌, Bool, true, false, not, eqb, ◌≢◌, List, [], ◌∷◌, ◌++◌, length, take, drop, sym, refl, ap, ◌∙◌, ⊎_elim, append_assoc, append-nil, add-zero, one-add, arith, length-append, length-drop}
+use Rattle.std.proofs.Common.{◌≡◌, ℕ, suc, ◌+◌, ◌-◌, ◌<◌, Bool, true, false, not, eqb, ◌≢◌, List, [], ◌∷◌, ◌++◌, length, take, drop, sym, refl, ap, ◌∙◌, ⊎_elim, append_assoc, append-nil, add-zero, one-add, arith, length-append, length-take-le, length-drop}
 use Rattle.std.specs.List.{prefix_len}
 use Rattle.std.proofs.lemmas.List.{drop-drop, nil_from_length}
 use Rattle.std.proofs.lemmas.List.Sums.{prefix_len-le-length}
@@ -74,3 +74,17 @@ line_cut xs first tail rest some ef et er =
     let same : (take n xs ∷ lines_of (drop (suc n) xs)) ≡ first ∷ lines_of rest = cc in
     let shorter : length rest ≡ length xs - (n + 1) = ap length (er ∙ (ap (drop 1) et ∙ drop-drop 1 n xs)) ∙ length-drop (n + 1) xs in
     (split ∙ same, omega arith)
+
+-- behind the first line's line feed
+pub line_rest : (xs first tail rest : List ℕ) → first ≡ take (prefix_len inside xs) xs → tail ≡ drop (prefix_len inside xs) xs → rest ≡ drop 1 tail → rest ≡ drop (length first + 1) xs
+line_rest xs first tail rest ef et er =
+    let n = prefix_len inside xs in
+    let long : length first ≡ n = ap length ef ∙ length-take-le n xs (prefix_len-le-length inside xs) in
+    er ∙ (ap (drop 1) et ∙ (drop-drop 1 n xs ∙ ap (λ k. drop (k + 1) xs) (sym long)))
+
+-- behind the first word
+pub word_rest : (line tail first rest : List ℕ) → tail ≡ drop (prefix_len blank line) line → first ≡ take (prefix_len letter tail) tail → rest ≡ drop (prefix_len letter tail) tail → rest ≡ drop (prefix_len blank line + length first) line
+word_rest line tail first rest et ef er =
+    let m = prefix_len letter tail in
+    let long : length first ≡ m = ap length ef ∙ length-take-le m tail (prefix_len-le-length letter tail) in
+    er ∙ (ap (drop m) et ∙ (drop-drop m (prefix_len blank line) line ∙ ap (λ k. drop (prefix_len blank line + k) line) (sym long)))

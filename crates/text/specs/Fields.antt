@@ -47,15 +47,18 @@ abbrev pub end_in : ℕ → List (List ℕ) → Result Unit WordFault
 end_in k [] = Ok tt
 end_in k (w ∷ ws) = Err (Extra k)
 
--- the largest numbers of 8, 16, 32 and 64 bits
+-- the largest number of 8 bits
 abbrev pub most8 : ℕ
 most8 = 255
 
+-- of 16 bits
 abbrev pub most16 : ℕ
 most16 = 65535
 
+-- of 32 bits
 abbrev pub most32 : ℕ
 most32 = 4294967295
 
+-- of 64 bits
 abbrev pub most64 : ℕ
 most64 = 18446744073709551615

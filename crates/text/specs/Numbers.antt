@@ -1,3 +1,4 @@
+-- Decimal numbers in bytes.
 use Rattle.std.specs.Prelude.{ℕ, ◌+◌, ◌-◌, ◌*◌, cond, not, ◌||◌, List, [], ◌∷◌, length, Ok, Err, Result, ◌==◌, nat_le}
 use Rattle.std.specs.Str.{all_ascii_digits}
 use Rattle.text.specs.declared.Misread.{Misread}

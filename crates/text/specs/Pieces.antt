@@ -1,3 +1,4 @@
+-- A list that falls into pieces, one after the other.
 use Rattle.std.specs.Prelude.{◌≡◌, ℕ, ◌<◌, List, [], ◌∷◌, length, Some, None, Option}
 use Rattle.text.specs.declared.Piece.{Piece}
 

@@ -53,7 +53,8 @@ impl<'a> Iterator for Words<'a> {
 impl Words<'_> {
     // The words of a line, from the first to the last.
     pub fn of(line: &[u8]) -> Words<'_>
-        ensures { words_left result ≡ words_of line.now }
+        ensures words { words_left result ≡ words_of line.now }
+        ensures rest { result.rest.now ≡ line.now }
     {
         Words { rest: line }
     }

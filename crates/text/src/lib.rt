@@ -1,7 +1,7 @@
 // Lines, words and decimal numbers in bytes that need not be text.
 #![tactic(auto)]
 
-ghost use Rattle.std.specs.Prelude.{◌≡◌, ℕ, Bool, true, take, drop, if◌then◌else◌, Some, None, nat_le};
+ghost use Rattle.std.specs.Prelude.{◌≡◌, ℕ, ◌+◌, Bool, true, length, take, drop, if◌then◌else◌, Some, None, IfSome, nat_le};
 ghost use Rattle.std.specs.List.{prefix_len};
 ghost use Rattle.std.specs.Str.{all_ascii_digits};
 ghost use Rattle.std.specs.Iterator.{YieldsFirstRef, item_count};
@@ -61,9 +61,10 @@ impl<'a> Iterator for Lines<'a> {
     }
 }
 
-// The first line: lines end in a line feed, which the last one may lack.
+// The first line: lines end in a line feed, which the last one may lack. What is left begins behind the line feed.
 pub fn next_line(input: &[u8]) -> Option<Piece<'_>>
-    ensures { Hands lines_of input.now result }
+    ensures line { Hands lines_of input.now result }
+    ensures rest { IfSome result (λ p. p.rest.now ≡ drop (length p.first.now + 1) input.now) }
 {
     if input.is_empty() {
         return None;
@@ -83,9 +84,10 @@ pub fn before_comment(line: &[u8]) -> &[u8]
     front
 }
 
-// The first word: words stand between blanks.
+// The first word: words stand between blanks. What is left begins right behind the word.
 pub fn next_word(line: &[u8]) -> Option<Piece<'_>>
-    ensures { Hands words_of line.now result }
+    ensures word { Hands words_of line.now result }
+    ensures rest { IfSome result (λ p. p.rest.now ≡ drop (prefix_len blank line.now + length p.first.now) line.now) }
 {
     let (_, tail) = split_while(line, is_blank);
     if tail.is_empty() {

@@ -1,3 +1,4 @@
+-- The figures of a half hour.
 use Rattle.std.specs.Prelude.{ℕ, zero, suc, cond, List, [], ◌++◌, length, ℤ, codes}
 use Rattle.std.specs.Fmt.{signed_decimal}
 use Rattle.rules.specs.Meaning.{Meaning, answered}

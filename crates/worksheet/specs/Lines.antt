@@ -1,3 +1,4 @@
+-- What is printed of a line of the table.
 use Rattle.std.specs.Prelude.{◌≡◌, ℕ, Bool, cond, List, [], ◌∷◌, ◌++◌, Ok, Err, string_bytes, codes, decimal, Result}
 use Rattle.std.specs.Str.{bytes_eq}
 use Rattle.rules.specs.Meaning.{Meaning}
@@ -25,7 +26,7 @@ abbrev pub compared_text : Half → List ℕ → List ℕ → List ℕ
 compared_text h x y =
     cond (bytes_eq x y) (head_text h (x ++ codes "\n")) (head_text h (x ++ (codes " differs" ++ (y ++ codes "\n"))))
 
--- a half hour comes to one of three
+-- differing where the figures x and y differ, and else split or unlawful
 abbrev pub compared_outcome : Bool → List ℕ → List ℕ → Outcome
 compared_outcome lawful x y = cond (bytes_eq x y) (cond lawful Split Unlawful) Differing
 

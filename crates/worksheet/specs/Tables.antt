@@ -1,3 +1,4 @@
+-- What is printed of a table.
 use Rattle.std.specs.Prelude.{ℕ, ◌+◌, ◌<◌, List, [], ◌∷◌, ◌++◌, codes, decimal}
 use Rattle.rules.specs.Meaning.{Meaning}
 use Rattle.text.specs.Words.{lines_of}

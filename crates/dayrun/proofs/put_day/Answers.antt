@@ -5,7 +5,8 @@ use Rattle.history.specs.declared.Dated.{Dated}
 use Rattle.book.specs.Kept.{opened}
 use Rattle.season.specs.Outcomes.{state_of}
 use Rattle.season.specs.Steps.{State}
-use Rattle.dayrun.specs.Calls.{no_holder, no_row, no_line, day_sent, site_terms, start}
+use Rattle.season.specs.Blanks.{no_holder, no_dated_row, no_line}
+use Rattle.dayrun.specs.Calls.{day_sent, site_terms, start}
 use Rattle.dayrun.specs.Files.{readings_in}
 use Rattle.dayrun.proofs.Chain.{put_more}
 use Rattle.dayrun.proofs.put_day.Goals as goal
@@ -14,7 +15,7 @@ use Rattle.dayrun.proofs.put_day.Goals as goal
 abbrev blank : Dated ℕ → Dated AllocationRow → State
 blank holder row = state_of opened (replicate 2 holder) (replicate 48 row) (replicate 48 no_reading) (replicate 96 no_volume) (replicate 192 no_line)
 
-begun : (holder : Dated ℕ) (row : Dated AllocationRow) → holder ≡ no_holder → row ≡ no_row → blank holder row ≡ start
+begun : (holder : Dated ℕ) (row : Dated AllocationRow) → holder ≡ no_holder → row ≡ no_dated_row → blank holder row ≡ start
 unfolding start
 begun holder row h r = ap (λ x. blank x row) h ∙ ap (blank no_holder) r
 

@@ -19,6 +19,7 @@ send_period-end-requires g c =
         high = c.loop-period-test.true;
         tame = period_tame o.terms next o.day o.run t p low c.args.at c.loop-period.end c.loop-period.issued ended came (c.requires.ready.tame p low c.loop-period-test.true);
       };
+      drafted = c.requires.drafted p low c.loop-period-test.true;
       room = period_room o.terms next o.day o.run t p low c.args.at c.loop-period.end c.loop-period.issued ended came (length c.loop-period.journal) c.loop-period-test.true (omega (arith, c.requires.room, c.loop-period.auto.journal));
     }
 
