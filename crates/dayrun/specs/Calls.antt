@@ -9,7 +9,8 @@ use Rattle.domain.specs.declared.terms.Terms.{Terms}
 use Rattle.rules.specs.House.{house}
 use Rattle.files.specs.declared.records.ReadingRecord.{ReadingRecord}
 use Rattle.book.specs.Kept.{opened}
-use Rattle.season.specs.Blanks.{no_holder, no_dated_row, no_line}
+use Rattle.domain.specs.Blanks.{no_line}
+use Rattle.season.specs.Blanks.{no_holder, no_dated_row}
 use Rattle.season.specs.Lent.{lent}
 use Rattle.season.specs.Outcomes.{outcome, state_of}
 use Rattle.season.specs.Steps.{State, step}

@@ -4,5 +4,6 @@ pub mod Slots
 pub mod Termed
 pub mod Checks
 pub mod Lines
+pub mod Blanks
 pub mod Numbers
 pub mod Texts

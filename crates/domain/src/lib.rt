@@ -6,6 +6,7 @@ ghost use Rattle.domain.specs.Refusals.{refused, number_of_table, number_of_term
 ghost use Rattle.domain.specs.declared.Table.TheVariants.{Readings, Issued};
 ghost use Rattle.domain.specs.declared.Fault.TheVariants.{ArgumentOutsideLimits, AnotherSize};
 ghost use Rattle.domain.specs.Checks.{unless, is_day, is_place, is_period, is_quality, spoiled_reading, spoiled_slot, no_reading, no_volume, readings_fit, issued_fit};
+ghost use Rattle.domain.specs.Blanks.{no_row, no_line};
 ghost use Rattle.domain.specs.Limits.{periods, most_kwh, most_capacity, fewest_places, most_places, most_days, nominations_of_row, most_records};
 ghost use Rattle.domain.specs.Slots.{reading_slot, issued_slot, gate, reading_slots, issued_slots};
 ghost use Rattle.domain.specs.Texts.{refusal_text, line_text};
@@ -166,6 +167,13 @@ impl Line {
         run: 0,
         volume: 0,
     };
+}
+
+// The entries named NONE are those of blank tables.
+pub fn blanks() -> (AllocationRow, Reading, Slot, Line)
+    ensures { result ≡ (no_row, no_reading, no_volume, no_line) }
+{
+    (AllocationRow::NONE, Reading::NONE, Slot::NONE, Line::NONE)
 }
 
 impl fmt::Display for Line {

@@ -10,7 +10,8 @@ use Rattle.domain.specs.declared.terms.Terms.{Terms}
 use Rattle.history.specs.declared.Dated.{Dated}
 use Rattle.book.specs.Kept.{Kept, opened}
 use Rattle.season.specs.Outcomes.{state_of}
-use Rattle.season.specs.Blanks.{no_holder, no_dated_row, no_line}
+use Rattle.domain.specs.Blanks.{no_line}
+use Rattle.season.specs.Blanks.{no_holder, no_dated_row}
 use Rattle.seasontext.specs.Runs.{run_of}
 use Rattle.seasontext.specs.Seasons.{start_of}
 

@@ -29,7 +29,8 @@ use Rattle.seasonlines.specs.declared.Faulty.{Faulty}
 use Rattle.seasonlines.specs.declared.Faulty.TheVariants as faulty
 use Rattle.seasonlines.specs.declared.Slip.{Slip}
 use Rattle.seasonlines.specs.declared.Slip.TheVariants.{RowOutside, TermsAgain, TablesLate}
-use Rattle.season.specs.Blanks.{no_holder, no_row, no_dated_row, no_line}
+use Rattle.domain.specs.Blanks.{no_row, no_line}
+use Rattle.season.specs.Blanks.{no_holder, no_dated_row}
 use Rattle.seasontext.specs.Texts.{outcome_text, volume_text, statement_text, slip_line, spoken}
 use Rattle.seasontext.specs.declared.desk.Draft.{Draft}
 

@@ -19,7 +19,8 @@ use Rattle.seasonlines.specs.declared.Faulty.{Faulty}
 use Rattle.seasonlines.specs.declared.Faulty.TheVariants as faulty
 use Rattle.seasonlines.specs.declared.Slip.TheVariants.{RowOutside, BeforeTerms}
 use Rattle.seasonlines.specs.declared.Slip.{Slip}
-use Rattle.season.specs.Blanks.{no_holder, no_dated_row, no_line}
+use Rattle.domain.specs.Blanks.{no_line}
+use Rattle.season.specs.Blanks.{no_holder, no_dated_row}
 use Rattle.seasontext.specs.Runs.{Run, run_of, closed, line_done}
 use Rattle.seasontext.specs.Sums.{tables_text}
 use Rattle.seasontext.specs.Texts.{slip_line}

@@ -5,7 +5,8 @@ use Rattle.history.specs.declared.Dated.{Dated}
 use Rattle.book.specs.Kept.{opened}
 use Rattle.season.specs.Outcomes.{state_of}
 use Rattle.season.specs.Steps.{State}
-use Rattle.season.specs.Blanks.{no_holder, no_dated_row, no_line}
+use Rattle.domain.specs.Blanks.{no_line}
+use Rattle.season.specs.Blanks.{no_holder, no_dated_row}
 use Rattle.dayrun.specs.Calls.{day_sent, site_terms, start}
 use Rattle.dayrun.specs.Files.{readings_in}
 use Rattle.dayrun.proofs.Chain.{put_more}

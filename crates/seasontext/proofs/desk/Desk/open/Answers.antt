@@ -1,7 +1,8 @@
 use Rattle.std.proofs.Common.{◌≡◌, replicate, vec_items, string_bytes, ap, ◌∙◌}
 use Rattle.domain.specs.Checks.{no_reading, no_volume}
 use Rattle.book.specs.Kept.{kept}
-use Rattle.season.specs.Blanks.{no_holder, no_dated_row, no_line}
+use Rattle.domain.specs.Blanks.{no_line}
+use Rattle.season.specs.Blanks.{no_holder, no_dated_row}
 use Rattle.seasontext.specs.Seasons.{usual_holders, usual_journal}
 use Rattle.seasontext.specs.Seen.{seen}
 use Rattle.seasontext.proofs.Desks.{dated_same}
