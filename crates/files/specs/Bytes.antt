@@ -1,5 +1,6 @@
 -- Numbers in bytes, and lists of records in bytes.
-use Rattle.std.specs.Prelude.{ℕ, zero, suc, ◌+◌, ◌*◌, ◌/◌, ◌%◌, ◌<◌, List, [], ◌∷◌, length, take, drop, Option, slice_index}
+use Rattle.std.specs.Prelude.{◌≡◌, ℕ, zero, suc, ◌+◌, ◌*◌, ◌/◌, ◌%◌, ◌<◌, List, [], ◌∷◌, length, take, drop, Option, MatchOption, slice_index}
+use Rattle.std.specs.Iterator.{YieldsFirst}
 use Rattle.std.specs.List.{AllByRecursion, slice_get}
 
 -- each number is a byte
@@ -34,3 +35,8 @@ records_in decode size bs = unpacked decode size (length bs / size) bs
 -- the record at a place, of as many as the bytes have, or none past the last
 abbrev pub record_in : {X : Type 0} → (List ℕ → X) → ℕ → List ℕ → ℕ → Option X
 record_in decode size bs index = slice_get (records_in decode size bs) index
+
+-- a call took the first record of the bytes that were left, if any, and left the bytes behind it
+abbrev pub TakesRecord : {X : Type 0} → (List ℕ → X) → ℕ → List ℕ → Option X → List ℕ → Type 0
+TakesRecord decode size was taken is =
+    YieldsFirst (records_in decode size) was taken is × MatchOption taken (is ≡ was) (λ _. is ≡ drop size was)

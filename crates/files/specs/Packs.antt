@@ -1,12 +1,15 @@
 -- Records one after the other: their bytes, one more record, and a record by its place.
-use Rattle.std.specs.Prelude.{◌≡◌, ℕ, zero, suc, ◌+◌, ◌-◌, ◌*◌, ◌/◌, ◌<◌, ◌≤◌, List, [], ◌∷◌, ◌++◌, length, take, drop, Some, None, slice_index, slice_index_or, slice_set, refl}
-use Rattle.std.proofs.Common.{sym, ap, ◌∙◌, append_assoc, add-mul, mul-le-mul_right, zero-mul, one-mul, div-mul-le_self, arith, length-append, length-drop, Fits}
+use Rattle.std.specs.Prelude.{◌≡◌, ℕ, zero, suc, ◌+◌, ◌-◌, ◌*◌, ◌/◌, ◌<◌, ◌≤◌, List, [], ◌∷◌, ◌++◌, length, take, drop, Option, Some, None, slice_index, slice_index_or, slice_set, refl}
+use Rattle.std.proofs.Common.{sym, ap, subst, ◌∙◌, append_assoc, add-mul, mul-le-mul_right, zero-mul, one-mul, div-mul-le_self, arith, length-append, length-drop, Fits}
 use Rattle.std.specs.Int.{w8}
 use borrow.Rule.Slice.PartMut.{put_mid}
 use Rattle.std.specs.List.{flat_map, AllByRecursion, slice_get}
 use Rattle.std.proofs.Math.Nat.{div-eq-sub-div, div-eq_of_lt, div-le_self, mul-div_cancel}
 use Rattle.std.proofs.lemmas.Option.{slice_get_past}
-use Rattle.files.specs.Bytes.{Bytes, unpacked, records_in}
+use Rattle.std.proofs.lemmas.Iterator.{YieldsList}
+use Rattle.std.proofs.lemmas.Iterator.Consumers.{YieldsList-from_shown}
+use Rattle.files.specs.Bytes.{Bytes, unpacked, records_in, TakesRecord}
+use Rattle.files.specs.declared.records.RecordIter.{RecordIter}
 use Rattle.std.proofs.lemmas.List.{take_more, take_at, drop_at, drop-drop, length-take-le, flat_map_more, nil_from_length, take-append-drop, take_more_set, take-take, drop-take}
 use Rattle.std.proofs.ByRecursion.{All-from_get_or, All-take, All-drop}
 
@@ -198,3 +201,9 @@ read_turn d s i bs part xs x h before is made =
 -- a record that is not past the last lies within the bytes
 pub room_index : (i s n : ℕ) → i < n / s → i * s + s ≤ n
 room_index i s n h = room_more i (n / s) s n h (div-mul-le_self n s)
+
+-- an iterator over records gives all that its bytes have
+pub records_given : {X : Type 0} (d : List ℕ → X) (size : ℕ) {s : RecordIter X} (xs : List X) → records_in d size s.bytes.now ≡ xs → YieldsList (λ (was : RecordIter X) taken is. TakesRecord d size was.bytes.now taken is.bytes.now) (λ x. x) s xs
+records_given {X} d size {s} xs e =
+    let steps : RecordIter X → Option X → RecordIter X → Type 0 = λ was taken is. TakesRecord d size was.bytes.now taken is.bytes.now in
+    subst (YieldsList steps (λ x. x) s) e (YieldsList-from_shown steps (λ x. x) (λ t. records_in d size t.bytes.now) (λ t u h. ap length h.0.0) (λ t x u h. h.0) s)

@@ -1,9 +1,9 @@
 // Records of a fixed number of bytes, and lists of them one after the other.
 
-ghost use Rattle.std.specs.Prelude.{◌≡◌, ℕ, ◌+◌, ◌-◌, ◌*◌, ◌/◌, ◌^◌, ◌<◌, ◌≤◌, List, [], ◌∷◌, ◌++◌, length, drop, Some, MatchOption, refl};
+ghost use Rattle.std.specs.Prelude.{◌≡◌, ℕ, ◌+◌, ◌-◌, ◌*◌, ◌/◌, ◌^◌, ◌<◌, ◌≤◌, List, [], ◌∷◌, ◌++◌, length, drop, Some, IfSome, MatchOption, refl};
 ghost use Rattle.std.specs.List.{flat_map, AllByRecursion};
-ghost use Rattle.std.specs.Iterator.{YieldsFirst, item_count};
-ghost use Rattle.files.specs.Bytes.{Bytes, word32, number32, unpacked, records_in, record_in};
+ghost use Rattle.std.specs.Iterator.{item_count};
+ghost use Rattle.files.specs.Bytes.{Bytes, word32, number32, unpacked, records_in, record_in, TakesRecord};
 ghost use Rattle.files.specs.Records.{Whole32, row_size, encoded_row, decoded_row, WholeRow, reading_size, encoded_reading, decoded_reading, WholeReading, line_size, encoded_line, decoded_line, WholeLine, intro_size, encoded_intro, decoded_intro, WholeIntro};
 ghost use Rattle.files.specs.Laws.{number_again, reading_again, line_again, row_long, row_back, row_again, intro_again};
 ghost use Rattle.files.specs.Formats.{kind_number, body_size};
@@ -139,7 +139,8 @@ fn record_at<R: Record>(bytes: &[u8], index: usize) -> Option<R>
 // The first record, with the bytes behind it, or none where there are fewer bytes than a record has.
 #[tactic(auto, using(crate::specs::Packs::records_more, crate::specs::Packs::records_none))]
 fn first_record<R: Record>(bytes: &[u8]) -> Option<(R, &[u8])>
-    ensures { MatchOption result (records_in R.Record.decoded R.Record.SIZE bytes.now ≡ []) (λ p. records_in R.Record.decoded R.Record.SIZE bytes.now ≡ p.0 ∷ records_in R.Record.decoded R.Record.SIZE p.1.now) }
+    ensures rest { IfSome result (λ p. p.1.now ≡ drop R.Record.SIZE bytes.now) }
+    ensures records { MatchOption result (records_in R.Record.decoded R.Record.SIZE bytes.now ≡ []) (λ p. records_in R.Record.decoded R.Record.SIZE bytes.now ≡ p.0 ∷ records_in R.Record.decoded R.Record.SIZE p.1.now) }
 {
     let (record, rest) = bytes.split_at_checked(R::SIZE)?;
     Some((R::decode(record), rest))
@@ -198,7 +199,7 @@ pub struct RecordIter<'a, R> {
 impl<'a, R: Record> Iterator for RecordIter<'a, R> {
     type Item = R;
 
-    ghost next_gives = { YieldsFirst (λ s. records_in R.Record.decoded R.Record.SIZE s.bytes.now) };
+    ghost next_gives = { λ was taken is. TakesRecord R.Record.decoded R.Record.SIZE was.bytes.now taken is.bytes.now };
 
     ghost remaining = { item_count (λ s. records_in R.Record.decoded R.Record.SIZE s.bytes.now) };
 

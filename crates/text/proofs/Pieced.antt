@@ -4,6 +4,7 @@ use Rattle.std.proofs.lemmas.List.{drop-drop, nil_from_length}
 use Rattle.std.proofs.lemmas.List.Sums.{prefix_len-le-length}
 use Rattle.std.proofs.lemmas.Bool.{cases_Bool}
 use Rattle.text.specs.Words.{blank, ended, words_after, words_of, lines_after, lines_of}
+use Rattle.text.specs.Left.{behind, behind_line, behind_word}
 
 abbrev pub letter : ℕ → Bool
 letter c = not (blank c)
@@ -75,16 +76,38 @@ line_cut xs first tail rest some ef et er =
     let shorter : length rest ≡ length xs - (n + 1) = ap length (er ∙ (ap (drop 1) et ∙ drop-drop 1 n xs)) ∙ length-drop (n + 1) xs in
     (split ∙ same, omega arith)
 
+-- behind the first of some pieces
+behind_first : (beside : ℕ) (pieces others : List (List ℕ)) (bytes first : List ℕ) → pieces ≡ first ∷ others → behind beside pieces bytes ≡ drop (beside + length first) bytes
+behind_first beside pieces others bytes first e = ap (λ ps. behind beside ps bytes) e
+
+-- with no piece all is left
+behind_none : (beside : ℕ) (pieces : List (List ℕ)) (bytes : List ℕ) → pieces ≡ [] → behind beside pieces bytes ≡ bytes
+behind_none beside pieces bytes e = ap (λ ps. behind beside ps bytes) e
+
 -- behind the first line's line feed
-pub line_rest : (xs first tail rest : List ℕ) → first ≡ take (prefix_len inside xs) xs → tail ≡ drop (prefix_len inside xs) xs → rest ≡ drop 1 tail → rest ≡ drop (length first + 1) xs
-line_rest xs first tail rest ef et er =
+pub line_rest : (xs first tail rest : List ℕ) → 0 < length xs → first ≡ take (prefix_len inside xs) xs → tail ≡ drop (prefix_len inside xs) xs → rest ≡ drop 1 tail → rest ≡ behind_line xs
+unfolding behind_line
+line_rest xs first tail rest some ef et er =
     let n = prefix_len inside xs in
     let long : length first ≡ n = ap length ef ∙ length-take-le n xs (prefix_len-le-length inside xs) in
-    er ∙ (ap (drop 1) et ∙ (drop-drop 1 n xs ∙ ap (λ k. drop (k + 1) xs) (sym long)))
+    let cut = behind_first 1 (lines_of xs) (lines_of rest) xs first (line_cut xs first tail rest some ef et er).0 in
+    er ∙ (ap (drop 1) et ∙ (drop-drop 1 n xs ∙ (ap (λ k. drop k xs) (omega (arith, long)) ∙ sym cut)))
 
 -- behind the first word
-pub word_rest : (line tail first rest : List ℕ) → tail ≡ drop (prefix_len blank line) line → first ≡ take (prefix_len letter tail) tail → rest ≡ drop (prefix_len letter tail) tail → rest ≡ drop (prefix_len blank line + length first) line
-word_rest line tail first rest et ef er =
+pub word_rest : (line tail first rest : List ℕ) → tail ≡ drop (prefix_len blank line) line → length tail ≢ 0 → first ≡ take (prefix_len letter tail) tail → rest ≡ drop (prefix_len letter tail) tail → rest ≡ behind_word line
+unfolding behind_word
+word_rest line tail first rest et some ef er =
     let m = prefix_len letter tail in
     let long : length first ≡ m = ap length ef ∙ length-take-le m tail (prefix_len-le-length letter tail) in
-    er ∙ (ap (drop m) et ∙ (drop-drop m (prefix_len blank line) line ∙ ap (λ k. drop (prefix_len blank line + k) line) (sym long)))
+    let cut = behind_first (prefix_len blank line) (words_of line) (words_of rest) line first (word_cut line tail first rest et some ef er).0 in
+    er ∙ (ap (drop m) et ∙ (drop-drop m (prefix_len blank line) line ∙ (ap (λ k. drop (prefix_len blank line + k) line) (sym long) ∙ sym cut)))
+
+-- without a line all is left
+pub line_none : (xs : List ℕ) → lines_of xs ≡ [] → xs ≡ behind_line xs
+unfolding behind_line
+line_none xs e = sym (behind_none 1 (lines_of xs) xs e)
+
+-- without a word all is left
+pub word_none : (line : List ℕ) → words_of line ≡ [] → line ≡ behind_word line
+unfolding behind_word
+word_none line e = sym (behind_none (prefix_len blank line) (words_of line) line e)

@@ -1,8 +1,8 @@
 // The fields of a line: its words from left to right, each as a number of the field's width.
 ghost use Rattle.std.specs.Prelude.{◌≡◌, drop, Some};
-ghost use Rattle.std.specs.Iterator.{YieldsFirstRef, item_count};
+ghost use Rattle.std.specs.Iterator.{item_count};
 ghost use Rattle.text.specs.Words.{words_of};
-ghost use Rattle.text.specs.Left.{words_left};
+ghost use Rattle.text.specs.Left.{words_left, behind_word, TakesWord};
 ghost use Rattle.text.specs.Fields.{word_fault_text, seen_as, word_number, number_in, end_in, fault_at};
 
 use crate::{Misread, Number, next_word, read_decimal};
@@ -36,10 +36,11 @@ pub struct Words<'a> {
     pub rest: &'a [u8],
 }
 
+#[tactic(auto, using(crate::proofs::Pieced::word_none))]
 impl<'a> Iterator for Words<'a> {
     type Item = &'a [u8];
 
-    ghost next_gives = { YieldsFirstRef words_left };
+    ghost next_gives = { TakesWord };
 
     ghost remaining = { item_count words_left };
 
@@ -62,7 +63,8 @@ impl Words<'_> {
     // The next word as a number.
     pub fn number<N: Number>(&mut self, place: u8) -> Result<N, WordFault>
         ensures value { seen_as N.value result ≡ number_in place N.MOST (words_of self.old.rest.now) }
-        ensures rest { words_of self.new.rest.now ≡ drop 1 (words_of self.old.rest.now) }
+        ensures words { words_of self.new.rest.now ≡ drop 1 (words_of self.old.rest.now) }
+        ensures rest { self.new.rest.now ≡ behind_word self.old.rest.now }
     {
         let text = self.next().ok_or(WordFault::Missing(place))?;
         word(text, place)

@@ -4,9 +4,9 @@
 ghost use Rattle.std.specs.Prelude.{◌≡◌, ℕ, ◌+◌, Bool, true, length, take, drop, if◌then◌else◌, Some, None, IfSome, nat_le};
 ghost use Rattle.std.specs.List.{prefix_len};
 ghost use Rattle.std.specs.Str.{all_ascii_digits};
-ghost use Rattle.std.specs.Iterator.{YieldsFirstRef, item_count};
+ghost use Rattle.std.specs.Iterator.{item_count};
 ghost use Rattle.text.specs.Words.{blank, words_of, lines_of, uncommented};
-ghost use Rattle.text.specs.Left.{lines_left};
+ghost use Rattle.text.specs.Left.{lines_left, behind_line, behind_word, TakesLine};
 ghost use Rattle.text.specs.Pieces.{Hands};
 ghost use Rattle.text.specs.Numbers.{decimal_in, number_after};
 
@@ -41,16 +41,18 @@ pub struct Lines<'a> {
 impl Lines<'_> {
     // The lines of an input, from the first to the last.
     pub fn of(input: &[u8]) -> Lines<'_>
-        ensures { lines_left result ≡ lines_of input.now }
+        ensures lines { lines_left result ≡ lines_of input.now }
+        ensures rest { result.rest.now ≡ input.now }
     {
         Lines { rest: input }
     }
 }
 
+#[tactic(auto, using(crate::proofs::Pieced::line_none))]
 impl<'a> Iterator for Lines<'a> {
     type Item = &'a [u8];
 
-    ghost next_gives = { YieldsFirstRef lines_left };
+    ghost next_gives = { TakesLine };
 
     ghost remaining = { item_count lines_left };
 
@@ -64,7 +66,7 @@ impl<'a> Iterator for Lines<'a> {
 // The first line: lines end in a line feed, which the last one may lack. What is left begins behind the line feed.
 pub fn next_line(input: &[u8]) -> Option<Piece<'_>>
     ensures line { Hands lines_of input.now result }
-    ensures rest { IfSome result (λ p. p.rest.now ≡ drop (length p.first.now + 1) input.now) }
+    ensures rest { IfSome result (λ p. p.rest.now ≡ behind_line input.now) }
 {
     if input.is_empty() {
         return None;
@@ -87,7 +89,7 @@ pub fn before_comment(line: &[u8]) -> &[u8]
 // The first word: words stand between blanks. What is left begins right behind the word.
 pub fn next_word(line: &[u8]) -> Option<Piece<'_>>
     ensures word { Hands words_of line.now result }
-    ensures rest { IfSome result (λ p. p.rest.now ≡ drop (prefix_len blank line.now + length p.first.now) line.now) }
+    ensures rest { IfSome result (λ p. p.rest.now ≡ behind_word line.now) }
 {
     let (_, tail) = split_while(line, is_blank);
     if tail.is_empty() {

@@ -14,7 +14,7 @@ loop-reading-preserved c =
     let was = state_in (kept c.loop-reading.book) c.loop-reading.tables in
     let rest = map reading_call (readings_in c.next.new.self.bytes.now) in
     record {
-      came = on t (reading_call c.in-Some.reading ∷ []) rest was so_far.terms c.in_ok-make.ensures.came ∙ ap (λ rs. run_until t was (map reading_call rs)) (sym c.in-Some.ensures.steps) ∙ so_far.came;
+      came = on t (reading_call c.in-Some.reading ∷ []) rest was so_far.terms c.in_ok-make.ensures.came ∙ ap (λ rs. run_until t was (map reading_call rs)) (sym c.in-Some.ensures.steps.0) ∙ so_far.came;
       terms = c.make.ensures.terms ∙ so_far.terms;
     }
 
@@ -25,10 +25,10 @@ returns-in_err-make-clause-came c =
     let so_far = c.loop-reading.invariant in
     let was = state_in (kept c.loop-reading.book) c.loop-reading.tables in
     let rest = map reading_call (readings_in c.next.new.self.bytes.now) in
-    rw (p.1, p.2) (on t (reading_call c.in-Some.reading ∷ []) rest was so_far.terms c.in_err-make.ensures.came ∙ ap (λ rs. run_until t was (map reading_call rs)) (sym c.in-Some.ensures.steps) ∙ so_far.came)
+    rw (p.1, p.2) (on t (reading_call c.in-Some.reading ∷ []) rest was so_far.terms c.in_err-make.ensures.came ∙ ap (λ rs. run_until t was (map reading_call rs)) (sym c.in-Some.ensures.steps.0) ∙ so_far.came)
 
 pub returns-clause-came : goal.returns-clause-came
 returns-clause-came c =
     let t = c.args.book.now.terms in
     let was = state_in (kept c.loop-reading.book) c.loop-reading.tables in
-    sym (none t was) ∙ ap (λ rs. run_until t was (map reading_call rs)) (sym c.in-None.ensures.steps.0) ∙ c.loop-reading.invariant.came
+    sym (none t was) ∙ ap (λ rs. run_until t was (map reading_call rs)) (sym c.in-None.ensures.steps.0.0) ∙ c.loop-reading.invariant.came

@@ -28,11 +28,11 @@ loop-period-preserved c =
     let text = string_bytes c.loop-period.text in
     let next : (zip_first c.next.new.self).start ≡ period + 1 = steps.0.1 ∙ ap (λ n. n + 1) steps.0.0 in
     let wrote = c.in_ok-write-2.ensures.bytes ∙ ap (λ n. text ++ row_text n c.in-Some.row) steps.0.0 in
-    record { few = omega (arith, ap length steps.1); written = rw next (rows_more period c.in-Some.row _ _ text _ _ inv.written steps.1 wrote) }
+    record { few = omega (arith, ap length steps.1.0); written = rw next (rows_more period c.in-Some.row _ _ text _ _ inv.written steps.1.0 wrote) }
 
 pub returns : goal.returns
 returns c =
     let inv = c.loop-period.invariant in
     let left = records_in decoded_row row_size (zip_second c.loop-period.period-iterator).bytes.now in
-    let none : left ≡ [] = ⊎_elim (λ h. nil_from_length left (let top = h.1.0 in omega arith)) (λ h. h.1.0) c.in-None.ensures.steps in
+    let none : left ≡ [] = ⊎_elim (λ h. nil_from_length left (let top = h.1.0 in omega arith)) (λ h. h.1.0.0) c.in-None.ensures.steps in
     rows_whole (zip_first c.loop-period.period-iterator).start left (string_bytes c.loop-period.text) _ inv.written none

@@ -12,7 +12,7 @@ find_terms-requires c =
     let first : c.zip-lines.result.a.start ≡ 1 = search rules in
     let second : c.zip-lines.result.b ≡ c.of.result = search rules in
     let many = ap (λ (l : Lines). length (lines_left l)) second in
-    let same = ap (λ ls. length ls) c.of.ensures in
+    let same = ap (λ ls. length ls) c.of.ensures.lines in
     let few = few_lines c.args.input.now in
     let long : length c.args.input.now < 2 ^ 63 = search rules in
     omega (arith, first, many, same, few, long)
@@ -24,7 +24,7 @@ returns-in_ok-write-in-Some-Err c =
     let ls = lines_left c.find_terms.new.lines.b in
     let first : c.zip-lines.result.a.start ≡ 1 = search rules in
     let second : c.zip-lines.result.b ≡ c.of.result = search rules in
-    let all : lines_left c.zip-lines.result.b ≡ lines_of c.args.input.now = ap (λ (l : Lines). lines_left l) second ∙ c.of.ensures in
+    let all : lines_left c.zip-lines.result.b ≡ lines_of c.args.input.now = ap (λ (l : Lines). lines_left l) second ∙ c.of.ensures.lines in
     let found : c.in_ok-terms.field-0 ≡ Some (Err c.in-Some-Err.fault) = search rules in
     let told = c.in_ok-terms.ensures.told q in
     c.in_ok-write-in-Some-Err.ensures.bytes

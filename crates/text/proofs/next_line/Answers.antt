@@ -8,5 +8,5 @@ returns c =
     let back = c.split_while.ensures.back inside (λ x r e. search (rules, tests)) in
     record {
       line = line_cut _ _ _ _ (search rules) front back c.after_first.ensures;
-      rest = line_rest _ _ _ _ front back c.after_first.ensures;
+      rest = line_rest _ _ _ _ (search rules) front back c.after_first.ensures;
     }

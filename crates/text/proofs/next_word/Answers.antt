@@ -17,5 +17,5 @@ returns c =
     let rest = c.split_while-2.ensures.back letter (λ x r e. search (rules, tests)) in
     record {
       word = word_cut _ _ _ _ skipped (search rules) (search first) (search rest);
-      rest = word_rest c.args.line.now c.split_while.result.1.now c.split_while-2.result.0.now c.split_while-2.result.1.now skipped (search first) (search rest);
+      rest = word_rest c.args.line.now c.split_while.result.1.now c.split_while-2.result.0.now c.split_while-2.result.1.now skipped (search rules) (search first) (search rest);
     }

@@ -13,6 +13,6 @@ returns g c =
     let left = lines_left (zip_second c.loop-number.number-iterator) in
     let inv = c.loop-number.invariant in
     let few = lines_few c.args.input.now in
-    let none : left ≡ [] = ⊎_elim (λ h. absurd (let top = h.1.0 in omega arith)) (λ h. h.1.0) c.in-None.ensures.steps in
+    let none : left ≡ [] = ⊎_elim (λ h. absurd (let top = h.1.0 in omega arith)) (λ h. h.1.0.0) c.in-None.ensures.steps in
     let last = counts_line c.loop-number.tally in
     table_all m k (zip_first c.loop-number.number-iterator).start c.loop-number.tally (tally_of 0 0 0 0) left (lines_of c.args.input.now) (string_bytes c.loop-number.text) (counts_text c.loop-number.tally ++ codes "\n") (string_bytes c.writeln.new.self) none inv.0 inv.1 last c.in_ok-writeln.ensures.bytes
