@@ -13,7 +13,7 @@ use Rattle.book.specs.Kept.{Kept}
 abbrev pub lines_from : List Line → ℕ → ℕ → List Line
 lines_from journal first count = take count (drop first journal)
 
--- the checks of a statement of `count` lines from `first` on, into so many bytes of a journal of so many lines
+-- the checks of a statement of `count` lines from `first` on, out of a journal of so many lines, into a buffer of so many bytes
 abbrev pub statement_answer : Kept → ℕ → ℕ → ℕ → ℕ → Result ℕ Fault
 statement_answer k journal first count room =
     unless (nat_le first k.lines) (ArgumentOutsideLimits 1) (

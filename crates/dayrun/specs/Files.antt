@@ -32,7 +32,7 @@ pub record Files : Type 0 where
   pub schedule : Told
   pub readings : Told
 
--- the numbers of a schedule file
+-- the sender of a schedule file
 abbrev pub sender_of : Told → ℕ
 sender_of t = slice_index t.numbers 1
 

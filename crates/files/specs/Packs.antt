@@ -187,7 +187,7 @@ pub unpacked_none : {X : Type 0} (d : List ℕ → X) (s : ℕ) (bs : List ℕ) 
 unfolding unpacked
 unpacked_none d s bs = refl
 
--- and so are those of a part of it
+-- the elements of a part of a list of bytes are bytes
 pub bytes_part : (n at : ℕ) (bs : List ℕ) → Bytes bs → Bytes (take n (drop at bs))
 bytes_part n at bs all = All-take (λ b. b < 256) n (drop at bs) (All-drop (λ b. b < 256) at bs all)
 

@@ -97,7 +97,7 @@ told_text t =
     cond (t.kind == 1) (schedule_text t.numbers t.records)
     (cond (t.kind == 2) (readings_text t.numbers t.records) (statement_text t.numbers t.records))
 
--- what reading it answers
+-- what is printed of what reading it answers
 abbrev pub answer_text : Result Told Fault → List ℕ
 answer_text (Ok t) = told_text t
 answer_text (Err fault) = refusal_text fault

@@ -1,4 +1,4 @@
-// The house rule's shares worked out a second way: nothing of the rules but the trait and the row, and no division.
+// The house rule's shares worked out a second way: nothing of the rules but the trait and the row, and no division but by two.
 #![tactic(auto)]
 
 ghost use Rattle.std.specs.Prelude.{◌≡◌, ◌-◌, ◌*◌, ◌≤◌, not, ◌&&◌, [], ◌∷◌, drop, pos, if◌then◌else◌, Some, None, sum, nat_le, slice_index_or};

@@ -52,7 +52,7 @@ words_text m k n (w ∷ ws) = read_text m k n (half_hour_in (w ∷ ws))
 abbrev pub line_text : Meaning → Meaning → ℕ → List ℕ → List ℕ
 line_text m k n line = words_text m k n (words_of (uncommented line))
 
--- what it came to that was read
+-- what came of what was read
 abbrev pub read_outcome : Meaning → Meaning → Result Half Fault → Outcome
 read_outcome m k (Ok h) = half_outcome m k h
 read_outcome m k (Err f) = Malformed
