@@ -1,7 +1,9 @@
 -- The day as a list of calls, made one after the other: the first refusal ends them.
-use Rattle.std.specs.Prelude.{ℕ, List, [], ◌∷◌, ◌++◌, map, take, replicate, Ok, Result}
+use Rattle.std.specs.Prelude.{ℕ, ◌*◌, List, [], ◌∷◌, ◌++◌, map, take, replicate, Ok, Result}
 use Rattle.std.proofs.Common.{arith}
+use Rattle.domain.specs.Blanks.{no_line}
 use Rattle.domain.specs.Checks.{and_then, no_reading, no_volume}
+use Rattle.domain.specs.Slots.{reading_slots, issued_slots}
 use Rattle.domain.specs.declared.AllocationRow.{AllocationRow}
 use Rattle.domain.specs.declared.Fault.{Fault}
 use Rattle.domain.specs.declared.Line.{Line}
@@ -9,7 +11,6 @@ use Rattle.domain.specs.declared.terms.Terms.{Terms}
 use Rattle.rules.specs.House.{house}
 use Rattle.files.specs.declared.records.ReadingRecord.{ReadingRecord}
 use Rattle.book.specs.Kept.{opened}
-use Rattle.domain.specs.Blanks.{no_line}
 use Rattle.season.specs.Blanks.{no_holder, no_dated_row}
 use Rattle.season.specs.Lent.{lent}
 use Rattle.season.specs.Outcomes.{outcome, state_of}
@@ -39,7 +40,7 @@ day_sent t st sender day moment rows readings =
 -- a new book and blank tables: two holders, a day of rows and readings, a slot for each place and period, and room for two lines a slot
 unfoldable pub start : State
 start =
-    state_of opened (replicate 2 no_holder) (replicate 48 no_dated_row) (replicate 48 no_reading) (replicate 96 no_volume) (replicate 192 no_line)
+    state_of opened (replicate 2 no_holder) (replicate (reading_slots 1) no_dated_row) (replicate (reading_slots 1) no_reading) (replicate (issued_slots 2 1) no_volume) (replicate (2 * issued_slots 2 1) no_line)
 
 -- the terms of the site: two places, one day, and a Relevant Capacity of 1,000 kWh
 abbrev pub site_terms : Terms

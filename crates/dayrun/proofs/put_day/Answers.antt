@@ -1,4 +1,5 @@
-use Rattle.std.proofs.Common.{◌≡◌, ℕ, replicate, ap, ◌∙◌}
+use Rattle.std.proofs.Common.{◌≡◌, ℕ, ◌*◌, replicate, ap, ◌∙◌}
+use Rattle.domain.specs.Slots.{reading_slots, issued_slots}
 use Rattle.domain.specs.Checks.{no_reading, no_volume}
 use Rattle.domain.specs.declared.AllocationRow.{AllocationRow}
 use Rattle.history.specs.declared.Dated.{Dated}
@@ -14,7 +15,7 @@ use Rattle.dayrun.proofs.put_day.Goals as goal
 
 -- blank tables, all holders one and all rows one
 abbrev blank : Dated ℕ → Dated AllocationRow → State
-blank holder row = state_of opened (replicate 2 holder) (replicate 48 row) (replicate 48 no_reading) (replicate 96 no_volume) (replicate 192 no_line)
+blank holder row = state_of opened (replicate 2 holder) (replicate (reading_slots 1) row) (replicate (reading_slots 1) no_reading) (replicate (issued_slots 2 1) no_volume) (replicate (2 * issued_slots 2 1) no_line)
 
 begun : (holder : Dated ℕ) (row : Dated AllocationRow) → holder ≡ no_holder → row ≡ no_dated_row → blank holder row ≡ start
 unfolding start
