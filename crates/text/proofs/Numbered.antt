@@ -1,10 +1,9 @@
-use Rattle.std.proofs.Common.{ℕ, ◌+◌, ◌-◌, ◌*◌, ◌%◌, ◌≡◌, ◌<◌, ◌≤◌, List, [], ◌∷◌, length, get_or, drop, arith}
-use Rattle.std.proofs.Math.Nat.{mod-eq_of_lt}
+use Rattle.std.proofs.Common.{ℕ, ◌+◌, ◌-◌, ◌*◌, ◌<◌, ◌≤◌, List, [], ◌∷◌, length, get_or, drop, arith}
 use Rattle.std.proofs.lemmas.List.{at_drop_more}
 use Rattle.text.specs.Numbers.{number_after}
 
 -- more digits make no number smaller
-number_after_ge : (n : ℕ) (cs : List ℕ) → n ≤ number_after n cs
+pub number_after_ge : (n : ℕ) (cs : List ℕ) → n ≤ number_after n cs
 number_after_ge n [] = omega arith
 number_after_ge n (c ∷ cs) = let more = number_after_ge (n * 10 + (c - 48)) cs in omega arith
 
@@ -14,7 +13,3 @@ next_digit_ge n i cs within =
     let more = at_drop_more (number_after n) cs i 0 within in
     let least = number_after_ge (n * 10 + (get_or cs i 0 - 48)) (drop (i + 1) cs) in
     omega arith
-
--- a number that is at most m stays when it is taken modulo m + 1
-pub mod_within : (n m : ℕ) → n ≤ m → n % (m + 1) ≡ n
-mod_within n m within = mod-eq_of_lt (omega arith)

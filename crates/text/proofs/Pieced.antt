@@ -13,19 +13,19 @@ abbrev pub inside : ℕ → Bool
 inside c = not (eqb c 10)
 
 -- a piece that has begun
-ended_some : (w : List ℕ) → 0 < length w → ended w ≡ w ∷ []
+pub ended_some : (w : List ℕ) → 0 < length w → ended w ≡ w ∷ []
 ended_some [] h = absurd (omega arith)
 ended_some (c ∷ w) h = refl
 
 -- blanks before the first word do not count
-words_skip : (cs : List ℕ) → words_of cs ≡ words_of (drop (prefix_len blank cs) cs)
+pub words_skip : (cs : List ℕ) → words_of cs ≡ words_of (drop (prefix_len blank cs) cs)
 words_skip [] = refl
 words_skip (c ∷ cs) =
     ⊎_elim (λ (e : blank c ≡ true). rw (e, one-add) (words_skip cs)) (λ (e : blank c ≡ false). rw e (rw e refl))
     (cases_Bool (blank c))
 
 -- the letters up to a blank end a word
-words_first : (w cs : List ℕ) → 0 < length w + prefix_len letter cs → words_after w cs ≡ (w ++ take (prefix_len letter cs) cs) ∷ words_of (drop (prefix_len letter cs) cs)
+pub words_first : (w cs : List ℕ) → 0 < length w + prefix_len letter cs → words_after w cs ≡ (w ++ take (prefix_len letter cs) cs) ∷ words_of (drop (prefix_len letter cs) cs)
 words_first w [] h = rw append-nil (ended_some w (omega arith))
 words_first w (c ∷ cs) h =
     ⊎_elim
@@ -36,7 +36,7 @@ words_first w (c ∷ cs) h =
     (cases_Bool (blank c))
 
 -- the bytes up to a line feed are a line
-lines_first : (l cs : List ℕ) → 0 < length l + length cs → lines_after l cs ≡ (l ++ take (prefix_len inside cs) cs) ∷ lines_of (drop (suc (prefix_len inside cs)) cs)
+pub lines_first : (l cs : List ℕ) → 0 < length l + length cs → lines_after l cs ≡ (l ++ take (prefix_len inside cs) cs) ∷ lines_of (drop (suc (prefix_len inside cs)) cs)
 lines_first l [] h = rw append-nil (ended_some l (omega arith))
 lines_first l (c ∷ cs) h =
     ⊎_elim (λ (e : eqb c 10 ≡ true). rw (e, append-nil) refl)

@@ -82,12 +82,11 @@ impl Words<'_> {
 }
 
 // The number that a word writes, which is the line's word `place`.
-#[tactic(auto, using(crate::proofs::Numbered::mod_within))]
 pub fn word<N: Number>(text: &[u8], place: u8) -> Result<N, WordFault>
     ensures { seen_as N.value result ≡ word_number place N.MOST text.now }
 {
     let number = read_decimal(text, N::MOST).map_err(|misread| misread.at(place))?;
-    Ok(N::narrowed(number))
+    N::fitting(number).ok_or(WordFault::TooLarge(place))
 }
 
 impl Misread {

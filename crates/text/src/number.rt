@@ -1,5 +1,6 @@
 // The numbers that a field of a line may be.
-ghost use Rattle.std.specs.Prelude.{◌≡◌, ℕ, ◌+◌, ◌%◌};
+ghost use Rattle.std.specs.Prelude.{ℕ, ◌≤◌, SomeIff};
+ghost use Rattle.std.specs.Option.{option_map};
 ghost use Rattle.text.specs.Fields.{most8, most16, most32, most64};
 
 // An unsigned number of a fixed width. The four impls are written out, since a verdict takes no impl that a macro writes.
@@ -12,9 +13,9 @@ pub trait Number: Drop {
     // The largest number of this type.
     const MOST: u64;
 
-    // The number as this type. One that fits stays as it is, and of a larger one the lowest bits are kept.
-    fn narrowed(number: u64) -> Self
-        ensures { value result ≡ number % (MOST + 1) };
+    // The number as this type, if it fits.
+    fn fitting(number: u64) -> Option<Self>
+        ensures { SomeIff (option_map value result) (number ≤ MOST) number };
 }
 
 impl Number for u8 {
@@ -24,8 +25,8 @@ impl Number for u8 {
 
     const MOST: u64 = u8::MAX as u64;
 
-    fn narrowed(number: u64) -> u8 {
-        (number % (Self::MOST + 1)) as u8
+    fn fitting(number: u64) -> Option<u8> {
+        u8::try_from(number).ok()
     }
 }
 
@@ -36,8 +37,8 @@ impl Number for u16 {
 
     const MOST: u64 = u16::MAX as u64;
 
-    fn narrowed(number: u64) -> u16 {
-        (number % (Self::MOST + 1)) as u16
+    fn fitting(number: u64) -> Option<u16> {
+        u16::try_from(number).ok()
     }
 }
 
@@ -48,8 +49,8 @@ impl Number for u32 {
 
     const MOST: u64 = u32::MAX as u64;
 
-    fn narrowed(number: u64) -> u32 {
-        (number % (Self::MOST + 1)) as u32
+    fn fitting(number: u64) -> Option<u32> {
+        u32::try_from(number).ok()
     }
 }
 
@@ -60,7 +61,7 @@ impl Number for u64 {
 
     const MOST: u64 = u64::MAX;
 
-    fn narrowed(number: u64) -> u64 {
-        number
+    fn fitting(number: u64) -> Option<u64> {
+        Some(number)
     }
 }
