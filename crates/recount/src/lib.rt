@@ -11,7 +11,7 @@ ghost use Rattle.recount.specs.Layers.{split, layers};
 ghost use Rattle.recount.specs.Fronts.{kind, Fronts};
 ghost use Rattle.rules.specs.Housed.{house_laws};
 
-use domain::{MAX_KWH, is_period};
+use domain::{MAX_KWH, PERIODS};
 use rules::{Row, Rule};
 
 // The second calculation, a rule that means what the house rule means.
@@ -70,7 +70,7 @@ enum Kind {
 fn outside(period: u8, energy: u32) -> bool
     ensures { result ≡ not (in_range period energy) }
 {
-    !is_period(period) || energy > MAX_KWH
+    period == 0 || period > PERIODS || energy > MAX_KWH
 }
 
 // A first block, and the row of the places after it.
@@ -124,8 +124,10 @@ fn peel(row: Row, blocks: u8, inner: Kind, asked: Asked) -> Option<i64>
 fn take_front(row: Row<'_>) -> Option<Front<'_>>
     ensures { Fronts (agreed row.entry) result }
 {
-    let (first, rest) = row.nominations.split_first()?;
-    if rest.len() < 2 || row.balance == 0 || *first > MAX_KWH {
+    let [first, rest @ ..] = row.nominations else {
+        return None;
+    };
+    if row.nominations.len() < 3 || row.balance == 0 || *first > MAX_KWH {
         return None;
     }
     let below = Row {
