@@ -1,5 +1,5 @@
 -- What an order's issue comes to, where the order asks of what the book knows.
-use Rattle.std.proofs.Common.{◌≡◌, ℕ, ◌+◌, ◌≤◌, List, length, Ok, Result, sym, ap, ◌∙◌, arith}
+use Rattle.std.proofs.Common.{◌≡◌, ℕ, ◌+◌, ◌<◌, ◌≤◌, List, length, IfOk, Ok, Err, Result, sym, ap, ◌∙◌, arith}
 use Rattle.domain.specs.Checks.{settled}
 use Rattle.domain.specs.declared.AllocationRow.{AllocationRow}
 use Rattle.domain.specs.declared.Reading.{Reading}
@@ -15,6 +15,13 @@ use Rattle.issuing.specs.Issue.{issue_answer, issued_after, day_lines}
 use Rattle.issuing.proofs.Answered.{accepted}
 use Rattle.book.specs.Kept.{Kept}
 use Rattle.book.specs.Issues.{standing_of, issue_verdict, slots_issued, journal_sent}
+
+-- an accepted issue is for a day of the book, and its lines fit the journal
+pub room_made : (m : Meaning) (t : Terms) (k : Standing) (holders : List (Dated ℕ)) (rows : List (Dated AllocationRow)) (readings : List Reading) (issued : List Slot) (room day run lines : ℕ) (r : Result ℕ Fault) → k.lines ≡ lines → r ≡ issue_answer m t k holders rows readings issued room day run → IfOk r (λ sent. (day < 62) × (lines + sent ≤ room))
+room_made m t k holders rows readings issued room day run lines (Err f) same e = tt
+room_made m t k holders rows readings issued room day run lines (Ok n) same e =
+    let a = accepted m t k holders rows readings issued room day run n (sym e) in
+    (omega (arith, a.0.is_day, t.season), omega (arith, a.1, a.2))
 
 module _ (m : Meaning) (t : Terms) (k : Kept) (holders : List (Dated ℕ)) (rows : List (Dated AllocationRow)) (readings : List Reading) (issued : List Slot) (journal : List Line) (day run : ℕ) where
   -- the answer of an issue, and what it leaves in the two tables that it writes
@@ -33,8 +40,8 @@ module _ (m : Meaning) (t : Terms) (k : Kept) (holders : List (Dated ℕ)) (rows
     }
 
     -- the lines of an accepted issue fit the journal
-    pub room_made : (n : ℕ) → r ≡ Ok n → k.lines + n ≤ length journal
-    room_made n is =
+    pub room_left : (n : ℕ) → r ≡ Ok n → k.lines + n ≤ length journal
+    room_left n is =
         let a = accepted m t s holders rows readings issued (length journal) day run n (sym answer ∙ is) in
         let lines = ap (λ (z : Standing). z.lines) same in
         omega (arith, a.1, a.2, lines)

@@ -150,6 +150,24 @@ pub rewritten_same : (bs : List ℕ) (t : Told) → Bytes bs → ◌≡◌ {A = 
 rewritten_same bs t all e =
     ap (λ r. seen_by file_of (seen_by content_of r)) (sym e) ∙ ap Ok (content_again bs t all (accepted bs t e))
 
+rows_said : (k : Kind) (h : Head) → (said k h).kind ≡ 1 → length h.rest ≡ body_size k h.count → length (said k h).records ≡ get_or (said k h).numbers 0 0 * 34
+rows_said Schedule h e long = length-drop 8 h.rest ∙ omega arith
+rows_said Readings h e long = absurd (omega arith)
+rows_said Statement h e long = absurd (omega arith)
+
+-- a schedule's record bytes are its rows'
+pub told_rows : (bs : List ℕ) (t : Told) → Accepted bs t → t.kind ≡ 1 → length t.records ≡ get_or t.numbers 0 0 * 34
+told_rows bs t a e =
+    let P : Told → Type 0 = λ t. length t.records ≡ get_or t.numbers 0 0 * 34 in
+    subst P (sym a.says) (rows_said a.kind a.head (sym (ap (λ t. t.kind) a.says) ∙ e) a.long)
+
+-- an accepted file is written again where there is room
+pub rewriting_ok : (bs : List ℕ) (t : Told) (room : ℕ) → ◌≡◌ {A = Result Told Fault} (Ok t) (read_of bs) → length bs ≤ room → ◌≡◌ {A = Result ℕ Fault} (Ok (length bs)) (rewriting bs room)
+rewriting_ok bs t room e h =
+    let enough : leb (length bs) room ≡ true = grind (arith, nat_tests) in
+    let next : Told → Result ℕ Fault = λ t. cond (leb (length bs) room) (Ok (length bs)) (Err (OutputTooShort (length bs))) in
+    sym (ap (λ b. cond b (Ok (length bs)) (Err (OutputTooShort (length bs)))) enough) ∙ ap (λ r. and_then r next) e
+
 one_kind : (k j : Kind) → kind_number k ≡ kind_number j → k ≡ j
 one_kind k j e =
     let named : (k : Kind) → kind_of (kind_number k) ≡ Some k = elim [ Schedule ↦ refl | Readings ↦ refl | Statement ↦ refl ] in

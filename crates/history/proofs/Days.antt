@@ -9,6 +9,10 @@ use Rattle.history.specs.declared.Dated.{Dated}
 use Rattle.history.proofs.Putting.{length_put, put_longer, found_day_other}
 use Rattle.history.proofs.Placing.{take-holding, holding_again}
 
+pub one_at_most : (b : Bool) → cond b 0 1 ≤ 1
+one_at_most true = omega arith
+one_at_most false = omega arith
+
 -- how many of those up to i are none, and of one more
 count_more : (at : List (Option ℕ)) (i : ℕ) → i < length at → count_by (λ o. not (is_some o)) (take (i + 1) at) ≡ count_by (λ o. not (is_some o)) (take i at) + cond (is_some (get_or at i None)) 0 1
 count_more at i within = go (is_some (get_or at i None)) refl

@@ -10,3 +10,4 @@ pub mod Stages
 pub mod Refused
 pub mod Answered
 pub mod After
+pub mod Sound

@@ -13,7 +13,7 @@ use Rattle.domain.specs.declared.Reading.{Reading}
 use Rattle.season.specs.declared.Call.TheVariants as call
 use Rattle.seasontext.specs.Runs.{Run, copied, rows_with, read_all, called}
 
-copied_more : (readings : List Reading) (first n : ℕ) (split : List (Option ℕ)) → copied readings first (n + 1) split ≡ set (copied readings first n split) (first + n) (Some (get_or readings (first + n) no_reading).kwh)
+pub copied_more : (readings : List Reading) (first n : ℕ) (split : List (Option ℕ)) → copied readings first (n + 1) split ≡ set (copied readings first n split) (first + n) (Some (get_or readings (first + n) no_reading).kwh)
 unfolding copied
 copied_more readings first n split = rw add-one refl
 
@@ -40,11 +40,11 @@ module _ (readings : List Reading) (first slot kwh : ℕ) (start split split' : 
   copied_past h e = e ∙ sym (set_past split slot (Some kwh) h) ∙ sym more
 
 -- rows from a place on, where there is room for all
-rows_none : (row : AllocationRow) (first : ℕ) (rows : List AllocationRow) → rows_with row first 0 rows ≡ rows
+pub rows_none : (row : AllocationRow) (first : ℕ) (rows : List AllocationRow) → rows_with row first 0 rows ≡ rows
 unfolding rows_with
 rows_none row first rows = refl
 
-rows_more : (row : AllocationRow) (first n : ℕ) (rows : List AllocationRow) → rows_with row first (n + 1) rows ≡ set (rows_with row first n rows) (first + n) row
+pub rows_more : (row : AllocationRow) (first n : ℕ) (rows : List AllocationRow) → rows_with row first (n + 1) rows ≡ set (rows_with row first n rows) (first + n) row
 unfolding rows_with
 rows_more row first n rows = rw add-one refl
 
@@ -71,7 +71,7 @@ rows_pasted row first (suc n) m rows few room =
     ∙ ap (λ k. paste rows first (replicate m row) k) (sym e)
 
 -- what lies past the last is not there
-rows_past : (row : AllocationRow) (first n k : ℕ) (rows : List AllocationRow) → length rows ≤ first + n → rows_with row first (n + k) rows ≡ rows_with row first n rows
+pub rows_past : (row : AllocationRow) (first n k : ℕ) (rows : List AllocationRow) → length rows ≤ first + n → rows_with row first (n + k) rows ≡ rows_with row first n rows
 rows_past row first n zero rows h = ap (λ m. rows_with row first m rows) (let e : n + 0 ≡ n = omega arith in e)
 rows_past row first n (suc k) rows h =
     let e : n + suc k ≡ (n + k) + 1 = omega arith in

@@ -1,6 +1,6 @@
 use Rattle.std.proofs.Common.{Ok, Err, rules, arith}
 use Rattle.book.specs.Kept.{kept}
-use Rattle.book.proofs.Sendings.{came, room_made}
+use Rattle.book.proofs.Sendings.{came, room_left}
 use Rattle.book.proofs.Book.issue.Goals as goal
 
 pub returns-in_err-sent-clause-answer : goal.returns-in_err-sent-clause-answer
@@ -11,7 +11,7 @@ returns-in_err-sent-clause-answer g c =
 
 pub overflow_add-self : goal.overflow_add-self
 overflow_add-self g c =
-    let room = room_made (g.R.Rule.meaning c.args.self.now.rule) c.args.self.now.terms (kept c.args.self.now) c.args.holders.now c.args.rows.now c.args.readings.now c.args.issued.now c.args.journal.now c.args.day c.args.run c.standing.result c.standing.ensures c.issue.result c.issue.ensures.answer c.in_ok-sent.sent c.in_ok-sent.was in
+    let room = room_left (g.R.Rule.meaning c.args.self.now.rule) c.args.self.now.terms (kept c.args.self.now) c.args.holders.now c.args.rows.now c.args.readings.now c.args.issued.now c.args.journal.now c.args.day c.args.run c.standing.result c.standing.ensures c.issue.result c.issue.ensures.answer c.in_ok-sent.sent c.in_ok-sent.was in
     grind arith
 
 pub returns : goal.returns
