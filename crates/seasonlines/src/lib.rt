@@ -6,7 +6,7 @@ ghost use Rattle.text.specs.Words.{words_of, uncommented};
 ghost use Rattle.text.specs.Left.{words_left};
 ghost use Rattle.seasonlines.specs.declared.Slip.TheVariants.{Word};
 ghost use Rattle.seasonlines.specs.Slips.{slip_text};
-ghost use Rattle.seasonlines.specs.Entries.{entry_of, said_of};
+ghost use Rattle.seasonlines.specs.Entries.{entry_of, said_of, worded};
 
 use domain::{AllocationRow, PERIODS};
 use std::fmt;
@@ -142,15 +142,21 @@ pub fn read_line(line: &[u8]) -> Result<Option<Entry>, Faulty>
 {
     let mut words = Words::of(before_comment(line));
     match words.next() {
-        Some(word) => Ok(Some(said(word, words)?)),
+        Some(word) => said(word, words),
         None => Ok(None),
     }
 }
 
 // What a line says with this first word and these words after it.
-fn said(word: &[u8], words: Words<'_>) -> Result<Entry, Faulty>
-    ensures { result ≡ said_of word.now (words_left words.entry) }
+// It answers in the form that the line has, since an entry is large and each other form would be one copy more.
+fn said(word: &[u8], words: Words<'_>) -> Result<Option<Entry>, Faulty>
+    ensures { result ≡ worded (said_of word.now (words_left words.entry)) }
 {
-    let verb = Verb::of(word).ok_or(Faulty::Line(Slip::UnknownWord))?;
-    verb.said(words).map_err(|slip| verb.faulty(slip))
+    let Some(verb) = Verb::of(word) else {
+        return Err(Faulty::Line(Slip::UnknownWord));
+    };
+    match verb.said(words) {
+        Ok(entry) => Ok(Some(entry)),
+        Err(slip) => Err(verb.faulty(slip)),
+    }
 }

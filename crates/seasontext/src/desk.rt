@@ -204,9 +204,11 @@ impl Desk {
     pub(crate) fn close(&mut self) -> Result<(), AllocError>
         ensures { OnOk result (seen self.new ≡ closed (seen self.old)) }
     {
-        let Some(draft) = self.draft.take() else {
+        // not by `take`, which copies and clears a whole draft before it tells whether there is one
+        let Some(draft) = self.draft else {
             return Ok(());
         };
+        self.draft = None;
         let Intro {
             sender,
             day,
@@ -305,7 +307,7 @@ impl Desk {
         ensures { OnOk result (seen self.new ≡ line_done number said (seen self.old)) }
     {
         self.settle(&said)?;
-        self.enter(number, said)
+        self.enter(number, &said)
     }
 
     // Calls the open schedule where a line ends it.
@@ -320,10 +322,10 @@ impl Desk {
     }
 
     // What a line does, once the schedule before it has been called.
-    fn enter(&mut self, number: u64, said: Said) -> Result<(), AllocError>
-        ensures { OnOk result (seen self.new ≡ entered number said (seen self.old)) }
+    fn enter(&mut self, number: u64, said: &Said) -> Result<(), AllocError>
+        ensures { OnOk result (seen self.new ≡ entered number said.now (seen self.old)) }
     {
-        match said {
+        match *said {
             Ok(None) => Ok(()),
             Ok(Some(Entry::Terms { .. })) => self.slip(number, Slip::TermsAgain),
             Ok(
